@@ -1,0 +1,280 @@
+-- Going once round each event, with no dart met twice and every dart met, is exactly `Rings`. Assumes nothing.
+--   Keeps g d, Kept g         the successor of d is a dart of d's event; so for every dart
+--   Marked l i, unmarked l    the table l has a mark at i; how many entries of l have none
+--   Traced g was d c now      a walk from d has come to c; the table `now` has the marks of `was`, and one at each dart met, none met twice
+--   Round g seen v            the marked darts of the event v are one walk and back
+--   Ringed g seen begun       each event with a mark in `begun` has such a round, and no other event has a marked dart
+use mathlib.Core.Path.{_≡_, refl, sym, ap, _∙_}
+use mathlib.Core.Logic.{_≢_, _⊎_, inl, inr, ⊎-elim}
+use mathlib.Core.List.{List}
+use Prim.Native.Nat.{ℕ, zero, suc, _+_, _-_, _<_, _≤_}
+use native.Mathlib.Decide.{ℕ-discrete, decLe}
+use native.Mathlib.Omega.{arith}
+use lib.ListN.{length, getD, set, length-set}
+use lib.Seq.{getD-set-same, getD-set-other}
+use Rattle.finite.specs.Sums.{sum, δ}
+use Rattle.finite.specs.Steps.{iter, Inj}
+use Rattle.finite.proofs.Sum.{sum-change, δ-eq, δ-other}
+use Rattle.finite.proofs.Perm.{inj-le}
+use Rattle.finite.proofs.Orbit.{cycle, iter-add, iter-inj}
+use Rattle.drawing.specs.Drawing.{Drawing, darts, event, after}
+use Rattle.drawing.specs.Conditions.{EventsKnown, Rings}
+use Rattle.drawing.proofs.Rounds.{after-inj}
+
+abbrev pub Keeps : Drawing → ℕ → Type 0
+Keeps g d = (after g d < darts g) × (event g (after g d) ≡ event g d)
+
+abbrev pub Kept : Drawing → Type 0
+Kept g = (d : ℕ) → d < darts g → Keeps g d
+
+abbrev pub Marked : List ℕ → ℕ → Type 0
+Marked l i = 1 ≤ getD l i 0
+
+unfoldable pub unmarked : List ℕ → ℕ
+unmarked l = sum (length l) (λ i. δ (getD l i 0) 0)
+
+pub record Traced (g : Drawing) (was : List ℕ) (d c : ℕ) (now : List ℕ) : Type 0 where
+  pub steps : ℕ
+  pub here : iter (after g) steps d ≡ c
+  pub size : length now ≡ length was
+  pub once : Inj steps (λ j. iter (after g) j d)
+  pub met : (j : ℕ) → j < steps → Marked now (iter (after g) j d)
+  pub still : (e : ℕ) → Marked was e → Marked now e
+  pub only : (e : ℕ) → Marked now e → Marked was e ⊎ ((j : ℕ) × (j < steps) × (iter (after g) j d ≡ e))
+
+pub record Round (g : Drawing) (seen : List ℕ) (v : ℕ) : Type 0 where
+  pub first : ℕ
+  pub inside : first < darts g
+  pub there : event g first ≡ v
+  pub steps : ℕ
+  pub some : 0 < steps
+  pub few : steps ≤ darts g
+  pub back : iter (after g) steps first ≡ first
+  pub met : (j : ℕ) → j < steps → Marked seen (iter (after g) j first)
+  pub only : (e : ℕ) → Marked seen e → event g e ≡ v → (j : ℕ) × (j < steps) × (iter (after g) j first ≡ e)
+
+pub record Ringed (g : Drawing) (seen begun : List ℕ) : Type 0 where
+  pub size : length seen ≡ darts g
+  pub room : g .events ≤ length begun
+  pub rounds : (v : ℕ) → Marked begun v → Round g seen v
+  pub begins : (e : ℕ) → Marked seen e → Marked begun (event g e)
+
+-- ---- marks
+
+pub unmarked-falls : (l : List ℕ) (c : ℕ) → c < length l → getD l c 0 < 1 → unmarked (set l c 1) < unmarked l
+unfolding unmarked
+unmarked-falls l c h z =
+    rw (length-set l c 1) (omega (
+      arith,
+      sum-change (length l) (λ i. δ (getD l i 0) 0) (λ i. δ (getD (set l c 1) i 0) 0) c h (λ i k d. ap (λ (x : ℕ). δ x 0) (sym (getD-set-other l c i 1 0 d))),
+      δ-eq (getD l c 0) 0 (omega arith),
+      δ-other (getD (set l c 1) c 0) 0 (λ q. omega (arith, getD-set-same l c 1 0 h)),
+    ))
+
+-- one mark more
+pub mark-still : (l : List ℕ) (c e : ℕ) → c < length l → Marked l e → Marked (set l c 1) e
+mark-still l c e h m =
+    elim (ℕ-discrete e c) [
+      | yes q ↦ omega (arith, getD-set-same l c 1 0 h, ap (λ (x : ℕ). getD (set l c 1) x 0) q)
+      | no q ↦ omega (arith, getD-set-other l c e 1 0 q)
+    ]
+
+pub mark-here : (l : List ℕ) (c e : ℕ) → c < length l → e ≡ c → Marked (set l c 1) e
+mark-here l c e h q = omega (arith, getD-set-same l c 1 0 h, ap (λ (x : ℕ). getD (set l c 1) x 0) q)
+
+pub mark-only : (l : List ℕ) (c e : ℕ) → Marked (set l c 1) e → Marked l e ⊎ (e ≡ c)
+mark-only l c e m = elim (ℕ-discrete e c) [ yes q ↦ inr q | no q ↦ inl (omega (arith, getD-set-other l c e 1 0 q)) ]
+
+-- ---- a walk that marks
+
+pub trace-start : (g : Drawing) (was : List ℕ) (d : ℕ) → Traced g was d d was
+unfolding iter
+trace-start g was d = record {
+  steps = 0;
+  here = refl;
+  size = refl;
+  once = λ i j a b q. absurd (omega arith);
+  met = λ j a. absurd (omega arith);
+  still = λ e m. m;
+  only = λ e m. inl m;
+}
+
+-- the dart c, which has no mark, is met and marked
+pub trace-step : (g : Drawing) (was now : List ℕ) (d c : ℕ) → Traced g was d c now → c < length now → getD now c 0 < 1
+    → Traced g was d (after g c) (set now c 1)
+unfolding iter
+trace-step g was now d c T l z = record {
+  steps = suc k;
+  here = ap (after g) (T .here);
+  size = length-set now c 1 ∙ T .size;
+  once = λ i j a b q. elim (ℕ-discrete i k) [
+    | yes s ↦ elim (ℕ-discrete j k) [
+      | yes t ↦ omega arith
+      | no t ↦ absurd (fresh j (omega arith) (sym q ∙ ap at s ∙ T .here))
+    ]
+    | no s ↦ elim (ℕ-discrete j k) [
+      | yes t ↦ absurd (fresh i (omega arith) (q ∙ ap at t ∙ T .here))
+      | no t ↦ T .once i j (omega arith) (omega arith) q
+    ]
+  ];
+  met = λ j a. elim (ℕ-discrete j k) [
+    | yes t ↦ mark-here now c (at j) l (ap at t ∙ T .here)
+    | no t ↦ mark-still now c (at j) l (T .met j (omega arith))
+  ];
+  still = λ e m. mark-still now c e l (T .still e m);
+  only = λ e m. ⊎-elim
+      (λ o. ⊎-elim (λ w. inl w) (λ t. inr (t .0, (let h : t .0 < k = t .1 in omega arith), t .2)) (T .only e o))
+      (λ q. inr (k, omega arith, T .here ∙ sym q))
+      (mark-only now c e m);
+}
+  where
+    k : ℕ
+    k = T .steps
+
+    at : ℕ → ℕ
+    at j = iter (after g) j d
+
+    fresh : (j : ℕ) → j < T .steps → iter (after g) j d ≢ c
+    fresh j a q = omega (arith, T .met j a, ap (λ (x : ℕ). getD now x 0) q)
+
+-- ---- rounds, where every successor is a dart of the same event
+
+module _ (g : Drawing) (K : Kept g) where
+  pub goes-inside : (k d : ℕ) → d < darts g → iter (after g) k d < darts g
+  unfolding iter
+  goes-inside zero d l = l
+  goes-inside (suc k) d l = K (iter (after g) k d) (goes-inside k d l) .0
+
+  pub goes-there : (k d : ℕ) → d < darts g → event g (iter (after g) k d) ≡ event g d
+  unfolding iter
+  goes-there zero d l = refl
+  goes-there (suc k) d l = K (iter (after g) k d) (goes-inside k d l) .1 ∙ goes-there k d l
+
+  module _ (seen begun : List ℕ) (I : Ringed g seen begun) (d : ℕ) (l : d < darts g) where
+    -- a dart without a mark at an event that has its round: the round misses it
+    pub refuse-second : getD seen d 0 < 1 → Marked begun (event g d) → Rings g → ⊥
+    refuse-second z m R =
+        let W = I .rounds (event g d) m in
+        let t = R .meets (W .first) d (W .inside) l (W .there) in
+        let c = cycle (after g) (W .first) (W .steps) (W .some) (W .back) (t .0) in
+        omega (arith, W .met (c .0) (c .1), ap (λ (x : ℕ). getD seen x 0) (sym (c .2) ∙ t .2))
+
+    module _ (new : getD begun (event g d) 0 < 1) (now : List ℕ) (c : ℕ) (T : Traced g seen d c now) (m : Marked now c) where
+      -- no dart of the event had a mark before
+      bare : (e : ℕ) → event g e ≡ event g d → Marked seen e → ⊥
+      bare e q w = omega (arith, I .begins e w, ap (λ (v : ℕ). getD begun v 0) q)
+
+      -- the walk met c
+      again : (j : ℕ) × (j < T .steps) × (iter (after g) j d ≡ c)
+      again = ⊎-elim (λ w. absurd (bare c (ap (event g) (sym (T .here)) ∙ goes-there (T .steps) d l) w)) (λ t. t) (T .only c m)
+
+      some : 0 < T .steps
+      some = let h : again .0 < T .steps = again .1 in omega arith
+
+      pub trace-marks : Marked now d
+      unfolding iter
+      trace-marks = T .met 0 some
+
+      -- a walk that ends at a dart met after d: the dart has two before it
+      pub refuse-open : c ≢ d → Rings g → ⊥
+      unfolding iter
+      refuse-open apart R =
+          let j : ℕ = again .0 in
+          let h : j < T .steps = again .1 in
+          let split : j + (T .steps - j) ≡ T .steps = omega arith in
+          let q : d ≡ iter (after g) (T .steps - j) d =
+          iter-inj (darts g) (after g) (after-inj g R) (R .inside) j d (iter (after g) (T .steps - j) d) l (goes-inside (T .steps - j) d l)
+          (again .2 ∙ sym (T .here) ∙ ap (λ (x : ℕ). iter (after g) x d) (sym split) ∙ iter-add (after g) j (T .steps - j) d) in
+          elim (ℕ-discrete j 0) [
+            | yes z ↦ apart (sym (again .2) ∙ ap (λ (x : ℕ). iter (after g) x d) z)
+            | no z ↦ omega (arith, T .once 0 (T .steps - j) some (omega arith) q)
+          ]
+
+      -- a walk that comes back to d is the round of its event
+      pub ring-closed : EventsKnown g → c ≡ d → Ringed g now (set begun (event g d) 1)
+      ring-closed E q = record {
+        size = T .size ∙ I .size;
+        room = omega (arith, I .room, length-set begun (event g d) 1);
+        rounds = λ v w. elim (ℕ-discrete v (event g d)) [
+          | yes s ↦ record {
+            first = d;
+            inside = l;
+            there = sym s;
+            steps = T .steps;
+            some = some;
+            few = inj-le (T .steps) (darts g) (λ j. iter (after g) j d) (T .once) (λ j h. goes-inside j d l);
+            back = T .here ∙ q;
+            met = T .met;
+            only = λ e x r. ⊎-elim (λ o. absurd (bare e (r ∙ s) o)) (λ t. t) (T .only e x);
+          }
+          | no s ↦
+              let W = I .rounds v (omega (arith, getD-set-other begun (event g d) v 1 0 s)) in
+              record {
+                first = W .first;
+                inside = W .inside;
+                there = W .there;
+                steps = W .steps;
+                some = W .some;
+                few = W .few;
+                back = W .back;
+                met = λ j h. T .still (iter (after g) j (W .first)) (W .met j h);
+                only = λ e x r. ⊎-elim (λ o. W .only e o r) (λ t. absurd (s (sym r ∙ on e t))) (T .only e x);
+              }
+        ];
+        begins = λ e x. ⊎-elim
+            (λ o. mark-still begun (event g d) (event g e) room (I .begins e o))
+            (λ t. mark-here begun (event g d) (event g e) room (on e t))
+            (T .only e x);
+      }
+        where
+          room : event g d < length begun
+          room = omega (arith, E d l, I .room)
+
+          on : (e : ℕ) → (j : ℕ) × (j < T .steps) × (iter (after g) j d ≡ e) → event g e ≡ event g d
+          on e t = ap (event g) (sym (t .2)) ∙ goes-there (t .0) d l
+
+  -- every dart has its mark
+  pub ringed-all : (seen begun : List ℕ) → Ringed g seen begun → ((d : ℕ) → d < darts g → Marked seen d) → Rings g
+  ringed-all seen begun I all = record {
+    inside = λ d l. K d l .0;
+    stays = λ d l. K d l .1;
+    meets = λ d e k l q.
+        let W = I .rounds (event g d) (I .begins d (all d k)) in
+        along W d e (W .only d (all d k) refl) (W .only e (all e l) (sym q));
+  }
+    where
+      along : {v : ℕ} (W : Round g seen v) (d e : ℕ)
+          → (i : ℕ) × (i < W .steps) × (iter (after g) i (W .first) ≡ d)
+          → (j : ℕ) × (j < W .steps) × (iter (after g) j (W .first) ≡ e)
+          → (k : ℕ) × (k < darts g) × (iter (after g) k d ≡ e)
+      along W d e s t =
+          let p = after g in
+          let x : ℕ = W .first in
+          let m : ℕ = W .steps in
+          let i : ℕ = s .0 in
+          let j : ℕ = t .0 in
+          let few : m ≤ darts g = W .few in
+          let im : i < m = s .1 in
+          let jm : j < m = t .1 in
+          elim (decLe i j) [
+            | yes h ↦
+                let split : j - i + i ≡ j = omega arith in
+                (j - i, omega arith, ap (iter p (j - i)) (sym (s .2)) ∙ sym (iter-add p (j - i) i x) ∙ ap (λ (k : ℕ). iter p k x) split ∙ t .2)
+            | no h ↦
+                let split : m - i + i ≡ m = omega arith in (
+                  j + (m - i),
+                  omega arith,
+                  ap (iter p (j + (m - i))) (sym (s .2)) ∙ iter-add p j (m - i) (iter p i x)
+                      ∙ ap (iter p j) (sym (iter-add p (m - i) i x) ∙ ap (λ (k : ℕ). iter p k x) split ∙ W .back) ∙ t .2,
+                )
+          ]
+
+-- no mark yet
+pub ringed-none : (g : Drawing) (seen begun : List ℕ) → length seen ≡ darts g → g .events ≤ length begun
+    → ((e : ℕ) → getD seen e 0 ≡ 0) → ((v : ℕ) → getD begun v 0 ≡ 0) → Ringed g seen begun
+ringed-none g seen begun s r a b = record {
+  size = s;
+  room = r;
+  rounds = λ v m. absurd (omega (arith, b v));
+  begins = λ e m. absurd (omega (arith, a e));
+}

@@ -1,0 +1,11 @@
+pub mod Decide
+pub mod Sum
+pub mod Perm
+pub mod Even
+pub mod Orbit
+pub mod Class
+pub mod Walk
+pub mod Yes
+pub mod Tally
+pub mod Extra
+pub mod Lists

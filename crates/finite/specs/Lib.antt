@@ -1,0 +1,4 @@
+pub mod Sums
+pub mod Steps
+pub mod Lists
+pub mod Says
