@@ -1,0 +1,5 @@
+pub mod Bytes
+pub mod Chain
+pub mod Unique
+pub mod Trying
+pub mod Table
