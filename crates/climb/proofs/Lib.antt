@@ -1,0 +1,10 @@
+pub mod Turns
+pub mod Along
+pub mod Changes
+pub mod Firsts
+pub mod Freeing
+pub mod Mixed
+pub mod Peels
+pub mod Counts
+pub mod Ends
+pub mod Backs

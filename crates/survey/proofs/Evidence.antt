@@ -1,0 +1,33 @@
+-- What the evidence of tests 12 and 13 shows. Assumes nothing.
+use mathlib.Core.Path.{_≡_, refl, sym, ap, _∙_}
+use mathlib.Core.Bool.{Bool, true, false, cond}
+use mathlib.Core.List.{List, [], _∷_, _++_}
+use Prim.Native.Nat.{ℕ, zero, suc, _<_, _≤_}
+use native.Mathlib.Omega.{arith}
+use borrow.Author.Tests.{ltb-true}
+use lib.Dec.{ltb}
+use lib.ListN.{length, take, set, length-set}
+use lib.Seq.{take-suc-set}
+use Rattle.finite.specs.Sums.{below}
+use Rattle.drawing.specs.Drawing.{Drawing, changes, mixed, mixedEvents}
+use Rattle.drawing.specs.Conditions.{NoneMixed}
+
+below-none : (n : ℕ) (p : ℕ → Bool) → ((i : ℕ) → i < n → p i ≡ false) → below n p ≡ []
+unfolding below
+below-none zero p h = refl
+below-none (suc n) p h = rw (h n (omega arith), below-none n p (λ i l. h i (omega arith)))
+
+-- a mixed event is listed only if there is one
+pub some-mixed : (g : Drawing) (m : ℕ) → take 1 (mixedEvents g) ≡ m ∷ [] → ¬ NoneMixed g
+unfolding mixedEvents
+some-mixed g m e none =
+    let z : mixedEvents g ≡ [] = below-none (g .events) (mixed g) (λ v l. not-mixed v (none v l) (mixed g v) refl) in
+    let q : _≡_ {A = List ℕ} [] (m ∷ []) = sym (ap (take 1) z) ∙ e in
+    absurd (let o : _≡_ {A = ℕ} 0 1 = cc in omega arith)
+  where
+    not-mixed : (v : ℕ) → changes g v ≤ 2 → (b : Bool) → ltb 2 (changes g v) ≡ b → b ≡ false
+    not-mixed v l true q = absurd (omega (arith, ltb-true 2 (changes g v) q))
+    not-mixed v l false q = refl
+
+pub first-set : (l : List ℕ) (m : ℕ) → 0 < length l → take 1 (set l 0 m) ≡ m ∷ []
+first-set l m h = take-suc-set l 0 m h

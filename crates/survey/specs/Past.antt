@@ -1,0 +1,61 @@
+-- The tests 9 to 13, and what they leave. Assumes nothing.
+--   ringTests, climbTests        tests 9 to 11, and tests 12 and 13
+--   Formed s n v                 the chart s, of n darts and v events, is past test 8
+--   Past s                       the chart s is past test 11
+--   Clear s n v                  the chart s is past test 13
+--   Surveyed s here first list r c   what the survey of tests 9 to 13 leaves: the fault r or 0, and its evidence, the first c entries of list
+use mathlib.Core.Path.{_≡_}
+use mathlib.Core.List.{List, [], _∷_}
+use Prim.Native.Nat.{ℕ, _≤_}
+use lib.ListN.{length, take}
+use Rattle.drawing.specs.Conditions.{EventsKnown, NoOwnArrow, OuterKnown, Rings, Joined, Planar, NoneMixed, NoCircle}
+use Rattle.rules.specs.Chart.{drawing}
+use Rattle.rules.specs.Tests.{Test, order, parted, crossing, mixing, circle, Given}
+use Rattle.rules.specs.Report.{Entries}
+use Rattle.chart.specs.Shape.{Shape}
+use Rattle.chart.specs.Held.{Faced, Firsts}
+
+abbrev pub ringTests : List Test
+ringTests = order ∷ parted ∷ crossing ∷ []
+
+abbrev pub climbTests : List Test
+climbTests = mixing ∷ circle ∷ []
+
+abbrev pub surveyTests : List Test
+surveyTests = order ∷ parted ∷ crossing ∷ mixing ∷ circle ∷ []
+
+pub record Formed (s : List ℕ) (n v : ℕ) : Type 0 where
+  pub shape : Shape s n
+  pub known : EventsKnown (drawing s)
+  pub own : NoOwnArrow (drawing s)
+  pub outer : OuterKnown (drawing s)
+  pub events : v ≡ drawing s .events
+
+pub record Past (s : List ℕ) : Type 0 where
+  pub rings : Rings (drawing s)
+  pub joined : Joined (drawing s)
+  pub planar : Planar (drawing s)
+
+-- the chart is past test 13
+pub record Clear (s : List ℕ) (n v : ℕ) : Type 0 where
+  pub formed : Formed s n v
+  pub past : Past s
+  pub unmixed : NoneMixed (drawing s)
+  pub free : NoCircle (drawing s)
+
+-- tests 9 to 11
+pub record Ringed (s here : List ℕ) (r : ℕ) : Type 0 where
+  pub given : Given ringTests s 0 r
+  pub faced : r ≡ 0 → Faced (drawing s) here
+
+-- tests 12 and 13
+pub record Climbed (s first list : List ℕ) (r c : ℕ) : Type 0 where
+  pub given : Given climbTests s 0 r
+  pub firsts : Firsts (drawing s) first
+  pub evidence : 12 ≤ r → (c ≤ length list) × Entries (drawing s) r (take c list)
+
+pub record Surveyed (s here first list : List ℕ) (r c : ℕ) : Type 0 where
+  pub given : Given surveyTests s 0 r
+  pub faced : r ≡ 0 → Faced (drawing s) here
+  pub firsts : r ≡ 0 → Firsts (drawing s) first
+  pub evidence : 12 ≤ r → (c ≤ length list) × Entries (drawing s) r (take c list)
