@@ -1,0 +1,4 @@
+pub mod Turns
+pub mod Ends
+pub mod Marks
+pub mod Near

@@ -1,0 +1,114 @@
+-- What the steps of the search ask and answer. Assumes nothing.
+--   Reads s n here     the chart s with n darts, as the search reads it
+--   Near               a corner of an event whose face has room
+--   Asks, Answer       a search for a place of the event u, from its corner first: a place of the list, or 65535 and a crowd
+--   Shifts             the moves along the way that a search found
+--   Turn, Seated       an event's turn: it is no pole, it is placed, or it has no place
+--   Begin, Settled     all events in turn: all poles are placed, or a crowd of poles with the first that has no place
+--   Tables             the tables before the first search
+--   labelOf, Labels    the label of each corner
+use mathlib.Core.Path.{_≡_}
+use mathlib.Core.Logic.{_≢_}
+use mathlib.Core.List.{List}
+use Prim.Native.Nat.{ℕ, _+_, _*_, _≤_, _<_}
+use lib.ListN.{length, replicate}
+use Rattle.finite.specs.Sums.{δ}
+use Rattle.drawing.specs.Drawing.{Drawing, darts, event, plain}
+use Rattle.rules.specs.Chart.{drawing}
+use Rattle.words.specs.Tables.{nth}
+use Rattle.chart.specs.Shape.{Shape}
+use Rattle.chart.specs.Held.{Firsts}
+use Rattle.placing.specs.Board.{Board, hold, Valid, Nobody, All, Crowd}
+use Rattle.placing.specs.Search.{Blank, Held, Way, member, Placed}
+
+pub record Reads (s : List ℕ) (n : ℕ) (here : List ℕ) : Type 0 where
+  pub shape : Shape s n
+  pub board : Board (drawing s) here
+
+-- rank has an entry for each face
+pub record Ranks (here rank : List ℕ) : Type 0 where
+  pub size : length rank ≡ length here
+  pub into : (c : ℕ) → c < length here → nth here c < length here
+
+-- the two tables of a search that has not begun
+pub record Fresh (n : ℕ) (rank via : List ℕ) : Type 0 where
+  pub ranks : length rank ≡ n
+  pub vias : length via ≡ n
+  pub blank : Blank rank
+
+-- r is no corner, or a corner of the event of corner first whose face has room
+pub record Near (g : Drawing) (here sp : List ℕ) (first r : ℕ) : Type 0 where
+  pub inside : r < 65535 → r < darts g
+  pub own : r < 65535 → event g r ≡ event g first
+  pub room : r < 65535 → 1 ≤ nth sp (nth here r)
+
+pub record Asks (s : List ℕ) (n : ℕ) (here L sp rank via : List ℕ) (u first : ℕ) : Type 0 where
+  pub reads : Reads s n here
+  pub valid : Valid (drawing s) L sp
+  pub fresh : Fresh (darts (drawing s)) rank via
+  pub inside : first < n
+  pub own : event (drawing s) first ≡ u
+  pub free : n ≤ nth L u
+
+-- at is the place of the list, end the list's end
+pub record Answer (g : Drawing) (here L sp : List ℕ) (u : ℕ) (rank via : List ℕ) (at end : ℕ) : Type 0 where
+  pub held : Held here rank via end
+  pub way : at < 65535 → Way g here L sp u rank via at
+  pub stuck : 65535 ≤ at → Crowd g (hold g here L sp) (member here L rank u)
+
+-- the place i of the list has room, and from it the way back to u stands
+pub record Shifts (s : List ℕ) (n : ℕ) (here rank via L sp : List ℕ) (u i : ℕ) : Type 0 where
+  pub reads : Reads s n here
+  pub valid : Valid (drawing s) L sp
+  pub few : (f : ℕ) → f < n → hold (drawing s) here L sp f ≤ 6144
+  pub way : Way (drawing s) here L sp u rank via i
+  pub free : n ≤ nth L u
+
+pub record Turn (s : List ℕ) (n : ℕ) (here poles first L sp rank via : List ℕ) (e : ℕ) : Type 0 where
+  pub reads : Reads s n here
+  pub valid : Valid (drawing s) L sp
+  pub few : (f : ℕ) → f < n → hold (drawing s) here L sp f ≤ 6144
+  pub poled : length poles ≡ drawing s .events
+  pub firsts : Firsts (drawing s) first
+  pub fresh : Fresh (darts (drawing s)) rank via
+  pub inside : e < drawing s .events
+  pub free : n ≤ nth L e
+
+pub record Seated (g : Drawing) (here poles L sp : List ℕ) (e : ℕ) (L′ sp′ rank′ via′ : List ℕ) (r : ℕ) : Type 0 where
+  pub few : r ≤ 2
+  pub ranks : length rank′ ≡ darts g
+  pub skip : r ≡ 2 → (nth poles e ≢ 1) × (L′ ≡ L) × (sp′ ≡ sp) × Fresh (darts g) rank′ via′
+  pub placed : r ≡ 1 → (nth poles e ≡ 1) × Placed g here L sp e L′ sp′ × Fresh (darts g) rank′ via′
+  pub stuck : r ≡ 0 → (nth poles e ≡ 1) × (L′ ≡ L) × (sp′ ≡ sp) × Crowd g (hold g here L sp) (member here L rank′ e)
+
+pub record Begin (s : List ℕ) (n : ℕ) (here poles first L sp rank via : List ℕ) : Type 0 where
+  pub reads : Reads s n here
+  pub poled : length poles ≡ drawing s .events
+  pub firsts : Firsts (drawing s) first
+  pub events : length L ≡ drawing s .events
+  pub nobody : Nobody (drawing s) L
+  pub faces : length sp ≡ n
+  pub few : (f : ℕ) → f < n → nth sp f ≤ 6144
+  pub fresh : Fresh (darts (drawing s)) rank via
+
+-- nobody is placed and nothing is listed
+pub record Tables (g : Drawing) (L rank via : List ℕ) : Type 0 where
+  pub large : L ≡ replicate (g .events) 65535
+  pub ranks : rank ≡ replicate (darts g) 0
+  pub vias : length via ≡ darts g
+
+pub record Settled (g : Drawing) (here poles room L rank : List ℕ) (r : ℕ) : Type 0 where
+  pub events : length L ≡ g .events
+  pub ranks : length rank ≡ darts g
+  pub all : 65535 ≤ r → All g here (nth poles) (nth room) L
+  pub inside : r < 65535 → r < g .events
+  pub crowd : r < 65535 → Crowd g (nth room) (member here L rank r)
+  pub of-poles : r < 65535 → (v : ℕ) → v < g .events → 1 ≤ member here L rank r v → nth poles v ≡ 1
+
+-- 2 more where the corner is its event's place, 1 more where it is plain
+abbrev pub labelOf : Drawing → List ℕ → ℕ → ℕ
+labelOf g L c = 2 * δ (nth L (event g c)) c + plain g c
+
+pub record Labels (g : Drawing) (L out : List ℕ) : Type 0 where
+  pub size : length out ≡ darts g
+  pub each : (c : ℕ) → c < darts g → nth out c ≡ labelOf g L c

@@ -1,0 +1,418 @@
+// Places for sources and sinks: a labelling, or a cut where there is none.
+//
+// A placement has for each source and sink one of its own corners, its large one, and no face holds more of them than its
+// room. To place an event, a search lists faces: those that it touches, then for each listed face without room those that
+// the events placed there touch. A face with room gives the way back, along which events move one by one. Where no listed
+// face has room, the event and all who are placed in listed faces are a cut.
+ghost use mathlib.Core.Path.{_≡_};
+ghost use Prim.Native.Nat.{_≤_, _<_};
+ghost use lib.ListN.{length};
+ghost use Rattle.drawing.specs.Drawing.{event, after};
+ghost use Rattle.drawing.specs.Conditions.{EventsKnown};
+ghost use Rattle.rules.specs.Chart.{drawing};
+ghost use Rattle.chart.specs.Shape.{Shape};
+ghost use Rattle.placing.specs.Board.{turn as nextCorner};
+ghost use Rattle.placing.specs.Search.{Blank, Held, Listed, Touched, Visited, Scanned, member, Placed, Listing};
+ghost use Rattle.places.specs.Steps.{Reads, Ranks, Near, Asks, Answer, Shifts, Turn, Seated, Begin, Settled, Tables, labelOf, Labels};
+ghost use Rattle.places.specs.Found.{Ready, Found};
+
+// Lists the face of corner c, unless it is listed. Returns the new end of the list.
+fn list_face(here: &[u16], rank: &mut [u16], via: &mut [u16], t: usize, c: usize) -> usize
+    requires { ⌜ Held (now here) (now rank) (now via) t × (c < length (now here)) × (length (now here) ≤ 6144) ⌝ }
+    ensures { λ r. ⌜ Listed (now (here .entry)) c (now (rank .entry)) (now (via .entry)) t (now (rank .exit)) (now (via .exit)) r ⌝ }
+{
+    let f = words::get(here, c);
+    if 1 <= words::get(rank, f) {
+        return t;
+    }
+    words::put(via, t, c);
+    words::put(rank, f, t + 1);
+    t + 1
+}
+
+// Takes the faces of the first t entries off the list: a search clears what it listed and no more.
+fn clear(here: &[u16], rank: &mut [u16], via: &[u16], t: usize)
+    requires { ⌜ Held (now here) (now rank) (now via) t ⌝ }
+    ensures { λ _. ⌜ Blank (now (rank .exit)) ⌝ }
+{
+    let mut i = 0;
+    while i < t {
+        let c = words::get(via, i);
+        let f = words::get(here, c);
+        words::put(rank, f, 0);
+        i += 1;
+    }
+}
+
+// Lists the faces that the event of corner first touches, going round it. Returns the new end.
+fn touch(
+    chart: &[u8],
+    n: usize,
+    here: &[u16],
+    rank: &mut [u16],
+    via: &mut [u16],
+    start: usize,
+    first: usize,
+) -> usize
+    requires { ⌜ Reads (now chart) n (now here) × Held (now here) (now rank) (now via) start × (first < n) ⌝ }
+    ensures { λ r. ⌜ Touched (drawing (now (chart .entry))) (now (here .entry)) (event (drawing (now (chart .entry))) first) (now (rank .entry)) (now (via .entry)) start (now (rank .exit)) (now (via .exit)) r ⌝ }
+{
+    let mut t = start;
+    let mut c = first;
+    // the steps gone, fewer than there are darts: so the walk ends
+    let mut k: usize = 0;
+    loop {
+        t = list_face(here, rank, via, t, c);
+        c = chart::next_of(chart, n, c);
+        if c == first {
+            return t;
+        }
+        k += 1;
+    }
+}
+
+// Where c is the place of its event, lists the faces that the event touches.
+fn visit(
+    chart: &[u8],
+    n: usize,
+    here: &[u16],
+    large: &[u16],
+    rank: &mut [u16],
+    via: &mut [u16],
+    t: usize,
+    c: usize,
+) -> usize
+    requires { ⌜ Reads (now chart) n (now here) × Held (now here) (now rank) (now via) t × (c < n) × (length (now large) ≡ drawing (now chart) .events) ⌝ }
+    ensures { λ r. ⌜ Visited (drawing (now (chart .entry))) (now (here .entry)) (now (large .entry)) c (now (rank .entry)) (now (via .entry)) t (now (rank .exit)) (now (via .exit)) r ⌝ }
+{
+    let e = chart::event_of(chart, n, c);
+    let l = words::get(large, e);
+    if l == c {
+        return touch(chart, n, here, rank, via, t, c);
+    }
+    t
+}
+
+// The next corner of the face of corner c.
+fn turn(chart: &[u8], n: usize, c: usize) -> usize
+    requires { ⌜ Shape (now chart) n × (c < n) × (after (drawing (now chart)) c < n) ⌝ }
+    ensures { λ r. ⌜ r ≡ nextCorner (drawing (now (chart .entry))) c ⌝ }
+{
+    words::twin(chart::next_of(chart, n, c))
+}
+
+// Lists the faces that the events placed in the face of corner first touch, going round the face.
+fn scan(
+    chart: &[u8],
+    n: usize,
+    here: &[u16],
+    large: &[u16],
+    rank: &mut [u16],
+    via: &mut [u16],
+    start: usize,
+    first: usize,
+) -> usize
+    requires { ⌜ Reads (now chart) n (now here) × Held (now here) (now rank) (now via) start × (first < n) × (length (now large) ≡ drawing (now chart) .events) ⌝ }
+    ensures { λ r. ⌜ Scanned (drawing (now (chart .entry))) (now (here .entry)) (now (large .entry)) first (now (rank .entry)) (now (via .entry)) start (now (rank .exit)) (now (via .exit)) r ⌝ }
+{
+    let mut t = start;
+    let mut c = first;
+    // the steps gone, fewer than there are darts: so the walk ends
+    let mut k: usize = 0;
+    loop {
+        t = visit(chart, n, here, large, rank, via, t, c);
+        c = turn(chart, n, c);
+        if c == first {
+            return t;
+        }
+        k += 1;
+    }
+}
+
+// Where a search stopped: the place of the list whose face has room, or 65535, and the end of the list.
+struct Stop {
+    at: usize,
+    end: usize,
+}
+
+// Looks for a place of the event u of corner first. The list goes on from each face that is full.
+fn search(
+    chart: &[u8],
+    n: usize,
+    here: &[u16],
+    spare: &[u16],
+    large: &[u16],
+    rank: &mut [u16],
+    via: &mut [u16],
+    u: usize,
+    first: usize,
+) -> Stop
+    requires { ⌜ Asks (now chart) n (now here) (now large) (now spare) (now rank) (now via) u first ⌝ }
+    ensures { λ r. ⌜ Answer (drawing (now (chart .entry))) (now (here .entry)) (now (large .entry)) (now (spare .entry)) u (now (rank .exit)) (now (via .exit)) (r .at) (r .end) ⌝ }
+{
+    let mut t = touch(chart, n, here, rank, via, 0, first);
+    let mut h = 0;
+    while h < t {
+        let c = words::get(via, h);
+        let f = words::get(here, c);
+        if 1 <= words::get(spare, f) {
+            return Stop { at: h, end: t };
+        }
+        t = scan(chart, n, here, large, rank, via, t, c);
+        h += 1;
+    }
+    Stop { at: 65535, end: t }
+}
+
+// A corner of the event of corner first whose face has room, the next from there on; or 65535. Most events find their place so, without a list.
+fn room_near(chart: &[u8], n: usize, here: &[u16], spare: &[u16], first: usize) -> usize
+    requires { ⌜ Reads (now chart) n (now here) × (length (now spare) ≡ n) × (first < n) ⌝ }
+    ensures { λ r. ⌜ Near (drawing (now (chart .entry))) (now (here .entry)) (now (spare .entry)) first r ⌝ }
+{
+    let mut c = first;
+    let mut k = 0;
+    while k < n {
+        if 1 <= words::get(spare, words::get(here, c)) {
+            return c;
+        }
+        c = chart::next_of(chart, n, c);
+        if c == first {
+            return 65535;
+        }
+        k += 1;
+    }
+    65535
+}
+
+// Looks for a place of the event u of corner first: in a face that it touches, or else by a search.
+fn find(
+    chart: &[u8],
+    n: usize,
+    here: &[u16],
+    spare: &[u16],
+    large: &[u16],
+    rank: &mut [u16],
+    via: &mut [u16],
+    u: usize,
+    first: usize,
+) -> Stop
+    requires { ⌜ Asks (now chart) n (now here) (now large) (now spare) (now rank) (now via) u first ⌝ }
+    ensures { λ r. ⌜ Answer (drawing (now (chart .entry))) (now (here .entry)) (now (large .entry)) (now (spare .entry)) u (now (rank .exit)) (now (via .exit)) (r .at) (r .end) ⌝ }
+{
+    let c = room_near(chart, n, here, spare, first);
+    if c < 65535 {
+        let t = list_face(here, rank, via, 0, c);
+        return Stop { at: 0, end: t };
+    }
+    search(chart, n, here, spare, large, rank, via, u, first)
+}
+
+// Moves events one by one, from the face with room at place start of the list back to the event u, which had no place.
+fn shift(
+    chart: &[u8],
+    n: usize,
+    here: &[u16],
+    rank: &[u16],
+    via: &[u16],
+    large: &mut [u16],
+    spare: &mut [u16],
+    u: usize,
+    start: usize,
+)
+    requires { ⌜ Shifts (now chart) n (now here) (now rank) (now via) (now large) (now spare) u start ⌝ }
+    ensures { λ _. ⌜ Placed (drawing (now (chart .entry))) (now (here .entry)) (now (large .entry)) (now (spare .entry)) u (now (large .exit)) (now (spare .exit)) ⌝ }
+{
+    let mut i = start;
+    loop {
+        let c = words::get(via, i);
+        let e = chart::event_of(chart, n, c);
+        let f = words::get(here, c);
+        let old = words::get(large, e);
+        words::put(large, e, c);
+        let a = words::get(spare, f);
+        words::put(spare, f, a - 1);
+        if e == u {
+            return;
+        }
+        let h = words::get(here, old);
+        let b = words::get(spare, h);
+        words::put(spare, h, b + 1);
+        let q = words::get(rank, h);
+        i = q - 1;
+    }
+}
+
+// Finds a place for event e if it is a source or sink: 2 if it is none, 1 if it is placed, 0 if it has no place.
+fn seat(
+    chart: &[u8],
+    n: usize,
+    here: &[u16],
+    poles: &[u16],
+    first: &[u16],
+    large: &mut [u16],
+    spare: &mut [u16],
+    rank: &mut [u16],
+    via: &mut [u16],
+    e: usize,
+) -> usize
+    requires { ⌜ Turn (now chart) n (now here) (now poles) (now first) (now large) (now spare) (now rank) (now via) e ⌝ }
+    ensures { λ r. ⌜ Seated (drawing (now (chart .entry))) (now (here .entry)) (now (poles .entry)) (now (large .entry)) (now (spare .entry)) e (now (large .exit)) (now (spare .exit)) (now (rank .exit)) (now (via .exit)) r ⌝ }
+{
+    if words::get(poles, e) != 1 {
+        return 2;
+    }
+    let d = words::get(first, e);
+    let stop = find(chart, n, here, spare, large, rank, via, e, d);
+    let i = stop.at;
+    if 65535 <= i {
+        return 0;
+    }
+    shift(chart, n, here, rank, via, large, spare, e, i);
+    let t = stop.end;
+    clear(here, rank, via, t);
+    1
+}
+
+// Places the sources and sinks in event order. Returns the first that has no place, or 65535.
+fn settle(
+    chart: &[u8],
+    n: usize,
+    here: &[u16],
+    poles: &[u16],
+    first: &[u16],
+    large: &mut [u16],
+    spare: &mut [u16],
+    rank: &mut [u16],
+    via: &mut [u16],
+) -> usize
+    requires { ⌜ Begin (now chart) n (now here) (now poles) (now first) (now large) (now spare) (now rank) (now via) ⌝ }
+    ensures { λ r. ⌜ Settled (drawing (now (chart .entry))) (now (here .entry)) (now (poles .entry)) (now (spare .entry)) (now (large .exit)) (now (rank .exit)) r ⌝ }
+{
+    let mut e = 0;
+    while e < poles.len() {
+        if seat(chart, n, here, poles, first, large, spare, rank, via, e) == 0 {
+            return e;
+        }
+        e += 1;
+    }
+    65535
+}
+
+// The label of corner c: 2 more where it is its event's place, 1 more where it is plain.
+fn label(chart: &[u8], n: usize, large: &[u16], c: usize) -> u8
+    requires { ⌜ Shape (now chart) n × (c < n) × (event (drawing (now chart)) c < length (now large)) ⌝ }
+    ensures { λ r. ⌜ r ≡ labelOf (drawing (now (chart .entry))) (now (large .entry)) c ⌝ }
+{
+    let e = chart::event_of(chart, n, c);
+    let d = chart::next_of(chart, n, c);
+    let l = words::get(large, e);
+    let k = ((c % 2 + d % 2) % 2) as u8;
+    if l == c {
+        return 2 + k;
+    }
+    k
+}
+
+// Writes the label of each corner.
+fn write_labels(chart: &[u8], n: usize, large: &[u16], labels: &mut [u8])
+    requires { ⌜ Shape (now chart) n × (length (now labels) ≡ n) × (length (now large) ≡ drawing (now chart) .events) × EventsKnown (drawing (now chart)) ⌝ }
+    ensures { λ _. ⌜ Labels (drawing (now (chart .entry))) (now (large .entry)) (now (labels .exit)) ⌝ }
+{
+    let mut c = 0;
+    while c < n {
+        labels[c] = label(chart, n, large, c);
+        c += 1;
+    }
+}
+
+// 1 if event v is in the cut that was found where u had no place, else 0.
+fn in_cut(here: &[u16], large: &[u16], rank: &[u16], u: usize, v: usize) -> usize
+    requires { ⌜ (v < length (now large)) × Ranks (now here) (now rank) ⌝ }
+    ensures { λ r. ⌜ r ≡ member (now (here .entry)) (now (large .entry)) (now (rank .entry)) u v ⌝ }
+{
+    if u == v {
+        return 1;
+    }
+    let c = words::get(large, v);
+    if here.len() <= c {
+        return 0;
+    }
+    let at = words::get(here, c);
+    if 1 <= words::get(rank, at) {
+        return 1;
+    }
+    0
+}
+
+// Writes the events of the cut, ascending, and returns how many there are.
+fn cut_list(here: &[u16], large: &[u16], rank: &[u16], u: usize, list: &mut [u16]) -> usize
+    requires { ⌜ Ranks (now here) (now rank) × (length (now list) ≡ length (now large)) × (length (now large) ≤ 1024) ⌝ }
+    ensures { λ r. ⌜ Listing (length (now (large .entry))) (member (now (here .entry)) (now (large .entry)) (now (rank .entry)) u) (now (list .exit)) r ⌝ }
+{
+    let mut k = 0;
+    let mut v = 0;
+    while v < large.len() {
+        if 1 <= in_cut(here, large, rank, u, v) {
+            words::put(list, k, v);
+            k += 1;
+        }
+        v += 1;
+    }
+    k
+}
+
+// The search on its tables: nobody is placed, and nothing is listed.
+fn place(
+    chart: &[u8],
+    n: usize,
+    here: &[u16],
+    first: &[u16],
+    spare: &mut [u16],
+    large: &mut [u16],
+    rank: &mut [u16],
+    via: &mut [u16],
+    labels: &mut [u8],
+    list: &mut [u16],
+) -> usize
+    requires { ⌜ Shape (now chart) n × Ready (drawing (now chart)) (now here) (now list) (now first) (now spare) × Tables (drawing (now chart)) (now large) (now rank) (now via) × (length (now labels) ≡ n) ⌝ }
+    ensures { λ r. ⌜ Found (drawing (now (chart .entry))) (now (labels .entry)) (now (labels .exit)) (now (list .exit)) r ⌝ }
+{
+    let r = settle(chart, n, here, list, first, large, spare, rank, via);
+    if 65535 <= r {
+        write_labels(chart, n, large, labels);
+        return 65535;
+    }
+    cut_list(here, large, rank, r, list)
+}
+
+// Writes a labelling and returns 65535; or writes the events of a cut, ascending, and returns how many there are.
+// The list comes with the sources and sinks marked, and goes with the cut.
+pub fn find_places(
+    chart: &[u8],
+    n: usize,
+    here: &[u16],
+    first: &[u16],
+    spare: &mut [u16],
+    labels: &mut [u8],
+    list: &mut [u16],
+) -> usize
+    requires { ⌜ Shape (now chart) n × Ready (drawing (now chart)) (now here) (now list) (now first) (now spare) × (length (now labels) ≡ n) ⌝ }
+    ensures { λ r. ⌜ Found (drawing (now (chart .entry))) (now (labels .entry)) (now (labels .exit)) (now (list .exit)) r ⌝ }
+{
+    let mut large = [65535u16; 1024];
+    let mut rank = [0u16; 6144];
+    let mut via = [0u16; 6144];
+    let v = list.len();
+    place(
+        chart,
+        n,
+        here,
+        first,
+        spare,
+        &mut large[0..v],
+        &mut rank[0..n],
+        &mut via[0..n],
+        labels,
+        list,
+    )
+}

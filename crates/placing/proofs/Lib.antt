@@ -1,0 +1,10 @@
+pub mod Boards
+pub mod Listing
+pub mod Rounds
+pub mod Moves
+pub mod Finds
+pub mod Settles
+pub mod Labelled
+pub mod Writes
+pub mod Pure
+pub mod Theorem

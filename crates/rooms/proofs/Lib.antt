@@ -1,0 +1,4 @@
+pub mod Counting
+pub mod Halving
+pub mod Rooms
+pub mod Flagging
