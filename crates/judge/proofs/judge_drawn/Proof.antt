@@ -1,0 +1,69 @@
+-- `judge::judge_drawn` meets its contract: a fault of the drawing, or what the report deserves. Assumes nothing.
+use mathlib.Core.Path.{_≡_, refl, subst}
+use mathlib.Core.Logic.{_≢_, inl, inr}
+use native.Mathlib.Omega.{arith}
+use borrow.Author.Needs.{needs}
+use Rattle.rules.specs.Tests.{Given}
+use Rattle.rules.proofs.Chain.{given-append}
+use Rattle.chart.specs.Form.{formTests}
+use Rattle.survey.specs.Past.{surveyTests}
+use Rattle.survey.proofs.Passing.{survey-clear}
+use Rattle.judge.proofs.judge_drawn.Statement.{statement}
+use Rattle.judge.proofs.judge_drawn.Tie as tie
+
+survey-all-requires : tie.Need-survey-all-requires
+survey-all-requires c κs = search needs
+
+same-length : tie.Need-same-length
+same-length c = search needs
+
+same-length-2 : tie.Need-same-length-2
+same-length-2 c = search needs
+
+same-length-3 : tie.Need-same-length-3
+same-length-3 c = search needs
+
+returns : tie.Need-returns
+returns c =
+    let p = c .before .before .before .before .before .before .before .before .before .before .before .before .before .before .before .before .pre in
+    let some : c .before .before .before .before .before .before .before .survey-all .result .fault ≢ 0 = λ e. omega (arith, c .if1 .taken) in
+    inl (_, some, given-append formTests surveyTests _ 0 _ (p .0 .1) (c .before .before .before .before .before .before .before .survey-all .ensures .given), refl)
+
+weigh-requires : tie.Need-weigh-requires
+weigh-requires c κs =
+    let p = c .before .before .before .before .before .before .before .before .before .before .before .before .before .before .before .before .before .pre in
+    let S = c .before .before .before .before .before .before .before .before .survey-all .ensures in
+    let z : c .before .before .before .before .before .before .before .before .survey-all .result .fault ≡ 0 = omega (arith, c .before .if1 .left) in
+    (survey-clear _ _ _ (p .0 .0) (subst (Given surveyTests _ 0) z (S .given)), S .faced z)
+
+same-length-4 : tie.Need-same-length-4
+same-length-4 c = search needs
+
+same-length-5 : tie.Need-same-length-5
+same-length-5 c = search needs
+
+same-length-6 : tie.Need-same-length-6
+same-length-6 c = search needs
+
+returns-2 : tie.Need-returns-2
+returns-2 c =
+    let p = c .before .before .before .before .before .before .before .before .before .before .before .before .before .before .before .before .before .before .pre in
+    let S = c .before .before .before .before .before .before .before .before .before .survey-all .ensures in
+    let z : c .before .before .before .before .before .before .before .before .before .survey-all .result .fault ≡ 0 = omega (arith, c .before .before .if1 .left) in
+    let w = c .weigh .ensures in
+    inr (w .0, given-append formTests surveyTests _ 0 0 (p .0 .1) (subst (Given surveyTests _ 0) z (S .given)), w .1, w .2)
+
+pub judge-drawn-spec : {M : Type 1} → statement M
+judge-drawn-spec =
+    tie.close
+    (tie.spec
+    survey-all-requires
+    same-length
+    same-length-2
+    same-length-3
+    returns
+    weigh-requires
+    same-length-4
+    same-length-5
+    same-length-6
+    returns-2)
