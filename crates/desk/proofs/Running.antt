@@ -1,0 +1,91 @@
+-- Runs of the tests one after the other. Assumes nothing.
+use mathlib.Core.Path.{_≡_, refl, sym, ap, subst, _∙_}
+use mathlib.Core.Logic.{_≢_, inl, inr}
+use mathlib.Core.Bool.{Bool, true, false, cond}
+use mathlib.Core.List.{List, [], _∷_, _++_}
+use Prim.Native.Nat.{ℕ, _≤_, _<_}
+use native.Mathlib.Omega.{arith}
+use borrow.Author.Tests.{ne-eqb}
+use lib.ListN.{length, drop}
+use Rattle.drawing.specs.Drawing.{Drawing}
+use Rattle.rules.specs.Chart.{drawing}
+use Rattle.rules.specs.Tests.{Test, short, tests, reportRoom, Given}
+use Rattle.rules.specs.Report.{Entries, report, Outcome}
+use Rattle.rules.proofs.Chain.{given-append, given-left}
+use Rattle.report.proofs.Laws.{writes-none}
+use Rattle.chart.specs.Form.{formTests}
+use Rattle.survey.specs.Past.{surveyTests}
+use Rattle.desk.specs.Run.{lastTests, drawnTests, Run}
+
+-- the survey gives no number above 13
+pub survey-small : (s : List ℕ) (r : ℕ) → Given surveyTests s 0 r → r ≤ 13
+survey-small s r (inl g) = omega (arith, g .1)
+survey-small s r (inr (_, inl g)) = omega (arith, g .1)
+survey-small s r (inr (_, inr (_, inl g))) = omega (arith, g .1)
+survey-small s r (inr (_, inr (_, inr (_, inl g)))) = omega (arith, g .1)
+survey-small s r (inr (_, inr (_, inr (_, inr (_, inl g))))) = omega (arith, g .1)
+survey-small s r (inr (_, inr (_, inr (_, inr (_, inr (_, e)))))) = omega (arith, e)
+
+-- nor the tests of the form one above 8
+pub form-small : (s : List ℕ) (r : ℕ) → Given formTests s 0 r → r ≤ 8
+form-small s r (inl g) = omega (arith, g .1)
+form-small s r (inr (_, inl g)) = omega (arith, g .1)
+form-small s r (inr (_, inr (_, inl g))) = omega (arith, g .1)
+form-small s r (inr (_, inr (_, inr (_, inl g)))) = omega (arith, g .1)
+form-small s r (inr (_, inr (_, inr (_, inr (_, inl g))))) = omega (arith, g .1)
+form-small s r (inr (_, inr (_, inr (_, inr (_, inr (_, inl g)))))) = omega (arith, g .1)
+form-small s r (inr (_, inr (_, inr (_, inr (_, inr (_, inr (_, inl g))))))) = omega (arith, g .1)
+form-small s r (inr (_, inr (_, inr (_, inr (_, inr (_, inr (_, inr (_, e)))))))) = omega (arith, e)
+
+no-entries : (g : Drawing) (n : ℕ) → n ≢ 0 → n < 12 → Entries g n []
+no-entries g n z l = simp (ne-eqb n 0 z, ne-eqb n 12 (λ e. omega arith), ne-eqb n 13 (λ e. omega arith), ne-eqb n 14 (λ e. omega arith)) refl
+
+no-report : (n : ℕ) → n ≢ 0 → n < 12 → report n [] ≡ []
+unfolding report
+no-report n z l = simp (writes-none n z l)
+
+-- the numbers 1 to 11 write nothing
+pub silent-run : (ts : List Test) (s b : List ℕ) (n : ℕ) → Given ts s (length b) n → n ≢ 0 → n < 12 → Run ts s b n 0 b
+silent-run ts s b n g z l = record {
+  given = g;
+  entries = [];
+  allowed = no-entries (drawing s) n z l;
+  written = sym (ap length (no-report n z l));
+  left = sym (ap (λ (x : List ℕ). x ++ b) (no-report n z l));
+}
+
+-- what later tests give and write, where the earlier ones find nothing
+pub run-after : (ts us : List Test) (s b : List ℕ) (n w : ℕ) (b′ : List ℕ) → Given ts s (length b) 0 → Run us s b n w b′ → Run (ts ++ us) s b n w b′
+run-after ts us s b n w b′ g R = record {
+  given = given-append ts us s (length b) n g (R .given);
+  entries = R .entries;
+  allowed = R .allowed;
+  written = R .written;
+  left = R .left;
+}
+
+-- a fault of the earlier tests
+pub run-before : (ts us : List Test) (s b : List ℕ) (n w : ℕ) (b′ : List ℕ) → n ≢ 0 → Run ts s b n w b′ → Run (ts ++ us) s b n w b′
+run-before ts us s b n w b′ z R = record {
+  given = given-left ts us s (length b) n z (R .given);
+  entries = R .entries;
+  allowed = R .allowed;
+  written = R .written;
+  left = R .left;
+}
+
+-- with report room enough, the tests 2 to 14 give the outcome
+pub room-outcome : (s b : List ℕ) (n w : ℕ) (b′ : List ℕ) → reportRoom ≤ length b → Run (formTests ++ drawnTests) s b n w b′ → Outcome s b n w b′
+room-outcome s b n w b′ l R = record {
+  given = inr (l, R .given);
+  entries = R .entries;
+  allowed = R .allowed;
+  written = R .written;
+  left = R .left;
+}
+
+-- and without, it is 1
+pub short-outcome : (s b : List ℕ) → length b < reportRoom → Outcome s b 1 0 b
+short-outcome s b l =
+    let R = silent-run (short ∷ []) s b 1 (inl ((λ h. omega arith), refl)) (λ e. omega arith) (omega arith) in
+    record { given = inl ((λ h. omega arith), refl); entries = R .entries; allowed = R .allowed; written = R .written; left = R .left }

@@ -1,0 +1,103 @@
+-- `desk::write_places` meets its contract: a cut leaves the place of the labels as it was. Assumes nothing.
+use mathlib.Core.Path.{_≡_, _∙_}
+use Prim.Native.Nat.{_+_, _-_, _%_, _≤_}
+use native.Mathlib.Omega.{arith}
+use borrow.Author.Needs.{needs}
+use lib.ListN.{length}
+use Rattle.drawing.specs.Drawing.{darts}
+use Rattle.rules.specs.Chart.{drawing}
+use Rattle.report.proofs.Laws.{part-length}
+use Rattle.desk.proofs.Writing.{left-whole, cut-run, labels-run}
+use Rattle.desk.proofs.write_places.Statement.{statement}
+use Rattle.desk.proofs.write_places.Tie as tie
+
+add-find-places : tie.Need-add-find-places
+add-find-places c = search needs
+
+sub-find-places : tie.Need-sub-find-places
+sub-find-places c = search needs
+
+part-find-places-start : tie.Need-part-find-places-start
+part-find-places-start c = search needs
+
+part-find-places-end : tie.Need-part-find-places-end
+part-find-places-end c = search needs
+
+find-places-requires : tie.Need-find-places-requires
+find-places-requires c κs = search needs
+
+put-list-requires : tie.Need-put-list-requires
+put-list-requires c κs =
+    let p = c .before .before .before .before .before .before .before .before .before .before .before .before .before .before .before .before .before .before .before .pre in
+    let f = c .before .before .before .before .before .before .before .before .before .find-places in
+    let r = f .ensures .no (c .before .before .if1 .taken) in
+    let size = p .0 .1 .poled .size in
+    let events = p .0 .0 .events .1 in
+    record {
+      low = omega arith;
+      high = omega arith;
+      held = r .0;
+      small = omega (arith, c .before .before .if1 .taken);
+      fits = search needs;
+    }
+
+same-length : tie.Need-same-length
+same-length c = search needs
+
+same-length-2 : tie.Need-same-length-2
+same-length-2 c = search needs
+
+same-length-3 : tie.Need-same-length-3
+same-length-3 c = search needs
+
+returns : tie.Need-returns
+returns c =
+    let p = c .before .before .before .before .before .before .before .before .before .before .before .before .before .before .before .before .before .before .before .before .before .before .pre in
+    let f = c .before .before .before .before .before .before .before .before .before .before .before .before .find-places in
+    let r = f .ensures .no (c .before .before .before .before .before .if1 .taken) in
+    let even : darts (drawing (c .before .before .before .before .before .before .before .before .before .before .before .before .before .before .before .before .before .before .before .before .before .before .args .chart .now)) % 2 ≡ 0 = omega (arith, p .0 .0 .darts, p .0 .0 .even) in
+    cut-run _ _ _ _ _ _ even (p .0 .1 .rings) (left-whole (c .before .before .before .before .before .before .before .before .before .before .before .before .before .before .before .before .before .before .before .before .before .before .args .report .now) (f .last .1 .1 .1 .1 .1 .0) (8 + c .before .before .before .before .before .before .before .before .before .before .before .before .before .before .before .before .before .before .before .before .before .before .args .n - 8) (r .2)) (r .1) (c .before .before .put-list .ensures)
+
+put-header-requires : tie.Need-put-header-requires
+put-header-requires c κs = search needs
+
+add-t12 : tie.Need-add-t12
+add-t12 c = search needs
+
+same-length-4 : tie.Need-same-length-4
+same-length-4 c = search needs
+
+same-length-5 : tie.Need-same-length-5
+same-length-5 c = search needs
+
+same-length-6 : tie.Need-same-length-6
+same-length-6 c = search needs
+
+returns-2 : tie.Need-returns-2
+returns-2 c =
+    let p = c .before .before .before .before .before .before .before .before .before .before .before .before .before .before .before .before .before .before .before .before .before .pre in
+    let f = c .before .before .before .before .before .before .before .before .before .before .before .find-places in
+    let n = c .before .before .before .before .before .before .before .before .before .before .before .before .before .before .before .before .before .before .before .before .before .args .n in
+    let room : 8 + n ≤ length (c .before .before .before .before .before .before .before .before .before .before .before .before .before .before .before .before .before .before .before .before .before .args .report .now) = omega (arith, p .0 .0 .few, p .1) in
+    labels-run _ (c .before .before .before .before .before .before .before .before .before .before .before .before .before .before .before .before .before .before .before .before .before .args .report .now) (f .last .1 .1 .1 .1 .1 .0) n _ room (f .kept .1 .1 .1 .1 .1 .0 ∙ part-length (c .before .before .before .before .before .before .before .before .before .before .before .before .before .before .before .before .before .before .before .before .before .args .report .now) n room) (f .ensures .yes (omega (arith, c .before .before .before .before .if1 .left))) (c .before .before .put-header .ensures)
+
+pub write-places-spec : {M : Type 1} → statement M
+write-places-spec =
+    tie.close
+    (tie.spec
+    add-find-places
+    sub-find-places
+    part-find-places-start
+    part-find-places-end
+    find-places-requires
+    put-list-requires
+    same-length
+    same-length-2
+    same-length-3
+    returns
+    put-header-requires
+    add-t12
+    same-length-4
+    same-length-5
+    same-length-6
+    returns-2)

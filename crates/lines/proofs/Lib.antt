@@ -1,0 +1,8 @@
+pub mod Text
+pub mod Decimal
+pub mod Said
+pub mod Each
+pub mod First
+pub mod Body
+pub mod Whole
+pub mod Tested

@@ -1,0 +1,4 @@
+pub mod Text
+pub mod Follow
+pub mod Kinds
+pub mod Printed
