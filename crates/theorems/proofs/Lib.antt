@@ -1,0 +1,4 @@
+pub mod Theorems
+pub mod Numbers
+pub mod Confirmed
+pub mod Demands
