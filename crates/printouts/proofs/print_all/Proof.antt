@@ -1,0 +1,47 @@
+-- `printouts::print_all` is safe and ends: each turn but the last gets further in the input. Assumes nothing.
+use Prim.Native.Nat.{_+_, _-_, _≤_}
+use lib.ListN.{length}
+use borrow.Author.Needs.{needs}
+use Rattle.printouts.proofs.print_all.Statement.{statement}
+use Rattle.printouts.proofs.print_all.Tie as tie
+
+abbrev Inv-loop : tie.InvT-loop
+Inv-loop input at₀ k₀ at k = (at ≤ length input) × (k ≤ at + 1)
+
+abbrev μ-loop : tie.MeasureT-loop
+μ-loop input at₀ k₀ at k = length input - at
+
+loop-holds : tie.Need-loop-holds Inv-loop μ-loop
+loop-holds c = search needs
+
+print-at-requires : tie.Need-print-at-requires Inv-loop μ-loop
+print-at-requires c κs = search needs
+
+returns : tie.Need-returns Inv-loop μ-loop
+returns c = search needs
+
+add-k : tie.Need-add-k Inv-loop μ-loop
+add-k c = search needs
+
+loop-less : tie.Need-loop-less Inv-loop μ-loop
+loop-less c = search needs
+
+loop-again : tie.Need-loop-again Inv-loop μ-loop
+loop-again c = search needs
+
+returns-2 : tie.Need-returns-2 Inv-loop μ-loop
+returns-2 c = search needs
+
+pub print-all-spec : {M : Type 1} → statement M
+print-all-spec =
+    tie.close
+    (tie.spec
+    Inv-loop
+    μ-loop
+    loop-holds
+    print-at-requires
+    returns
+    add-k
+    loop-less
+    loop-again
+    returns-2)
