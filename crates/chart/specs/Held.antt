@@ -1,5 +1,6 @@
 -- What the tables that the tests fill hold of a drawing. Assumes nothing.
 --   Faced g here      here has the face of each corner
+--   Picked g first    first has a dart of each event that has one, and no dart for the others
 --   Firsts g first    first has a dart of each event
 --   Roomed g spare    spare has the room of each face, and 0 at the darts that name no face
 --   Poled g poles     poles has 1 at the sources and sinks, 0 at the other events
@@ -15,6 +16,11 @@ use Rattle.words.specs.Tables.{nth}
 pub record Faced (g : Drawing) (here : List ℕ) : Type 0 where
   pub size : length here ≡ darts g
   pub each : (c : ℕ) → c < darts g → nth here c ≡ cornerFace g c
+
+pub record Picked (g : Drawing) (first : List ℕ) : Type 0 where
+  pub size : length first ≡ g .events
+  pub own : (v : ℕ) → v < g .events → nth first v < darts g → event g (nth first v) ≡ v
+  pub each : (c : ℕ) → c < darts g → nth first (event g c) < darts g
 
 pub record Firsts (g : Drawing) (first : List ℕ) : Type 0 where
   pub size : length first ≡ g .events

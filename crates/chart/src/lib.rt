@@ -23,7 +23,7 @@ pub fn next_of(chart: &[u8], n: usize, d: usize) -> usize
     requires { ⌜ Shape (now chart) n × (d < n) ⌝ }
     ensures { λ r. ⌜ r ≡ after (drawing (now (chart .entry))) d ⌝ }
 {
-    words::word(chart, 11 + 2 * n + 2 * d)
+    words::word(&chart[11 + 2 * n..], 2 * d)
 }
 
 // ---- the header's numbers

@@ -13,7 +13,7 @@ use lib.ListN.{length, set, take, length-set}
 use lib.Seq.{getD-set-same, getD-set-other, getD-take, length-take-le}
 use Rattle.finite.specs.Steps.{iter}
 use Rattle.finite.proofs.Perm.{inj-le}
-use Rattle.finite.proofs.Orbit.{iter-add, cycle}
+use Rattle.finite.proofs.Orbit.{iter-add, cycle, fresh-inj}
 use Rattle.finite.proofs.Walk.{Walk, walk-start, walk-step}
 use Rattle.drawing.specs.Drawing.{Drawing, arrows, tail, head}
 use Rattle.drawing.specs.Conditions.{EventsKnown, NoCircle}
@@ -21,7 +21,7 @@ use Rattle.drawing.proofs.Climb.{back, before, Enters, Turning, Turn, Lowest, f
 use Rattle.words.specs.Tables.{nth}
 use Rattle.climb.specs.Evidence.{CircleFound}
 use Rattle.climb.specs.Back.{Kept, Entering, live, dead, Chosen, Lower, Written}
-use Rattle.climb.proofs.Turns.{ahead, walk-ahead, fresh-inj}
+use Rattle.finite.proofs.Ahead.{ahead, nearer}
 
 -- ---- an entering arrow for each event left
 
@@ -131,10 +131,10 @@ module _ (g : Drawing) (known : EventsKnown g) (into : List ℕ) (s : ℕ) (T : 
         | no l ↦ absurd (W .fresh (t .0) (t .1 .some) (omega arith) (t .1 .returns))
       ]
 
-  pub turn-nearer : (k c e : ℕ) → Walk p s k c → e ≡ p c → e ≢ s → ahead (g .events) p s e < ahead (g .events) p s c
+  pub turn-nearer : (k c e : ℕ) → Walk p s k c → e ≡ p c → e ≢ s → ahead (g .events) p s (p e) < ahead (g .events) p s (p c)
   turn-nearer k c e W q z =
       let t = first-turn g (nth into) s T in
-      rw q (walk-ahead (g .events) p s k c (t .0) W (t .1 .some) (turn-few (t .0) (t .1)) (t .1 .returns) (λ r. z (q ∙ r)))
+      rw q (nearer p s (g .events) (t .0) c (t .1 .some) (turn-few (t .0) (t .1)) (t .1 .returns) (k, sym (W .here)) (λ r. z (q ∙ r)))
 
   pub turn-again : (k c e : ℕ) → Walk p s k c → e ≡ p c → e ≢ s → Walk p s (k + 1) e
   turn-again k c e W q z = rw q (walk-step p s k c W (λ r. z (q ∙ r)))

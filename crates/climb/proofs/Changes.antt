@@ -9,12 +9,12 @@ use native.Mathlib.Omega.{arith}
 use Rattle.finite.specs.Sums.{sum, class}
 use Rattle.finite.specs.Steps.{iter, Inj}
 use Rattle.finite.proofs.Sum.{sum-mono, sum-const, sum-prefix}
-use Rattle.finite.proofs.Orbit.{iter-into, returns, round, cycle}
+use Rattle.finite.proofs.Orbit.{iter-into, fresh-inj, round, cycle}
 use Rattle.finite.proofs.Walk.{Walk, walk-start, walk-step, walk-few, walk-into}
 use Rattle.drawing.specs.Drawing.{Drawing, darts, event, after, plain, changes}
 use Rattle.drawing.specs.Conditions.{Rings}
 use Rattle.drawing.proofs.Rounds.{after-inj, after-reach, reach-stays}
-use Rattle.climb.proofs.Turns.{ahead, walk-ahead, fresh-inj}
+use Rattle.finite.proofs.Ahead.{ahead, orbit-nearer}
 use Rattle.climb.proofs.Along.{along-class}
 
 module _ (g : Drawing) (R : Rings g) (d : ℕ) (l : d < darts g) where
@@ -46,8 +46,8 @@ module _ (g : Drawing) (R : Rings g) (d : ℕ) (l : d < darts g) where
       ]
 
   -- a step of a ring's walk brings the return nearer
-  pub ring-nearer : (k c : ℕ) → Walk (after g) d k c → after g c ≢ d → ahead (darts g) (after g) d (after g c) < ahead (darts g) (after g) d c
-  ring-nearer k c W z = let t = returns (darts g) (after g) (after-inj g R) (R .inside) d l in walk-ahead (darts g) (after g) d k c (t .0) W (t .1) (t .2) (t .3) z
+  pub ring-nearer : (k c : ℕ) → Walk (after g) d k c → after g c ≢ d → ahead (darts g) (after g) d (after g (after g c)) < ahead (darts g) (after g) d (after g c)
+  ring-nearer k c W z = orbit-nearer (darts g) (after g) d c (after-inj g R) (R .inside) l (k, sym (W .here)) z
 
 pub record Passed (g : Drawing) (d c total : ℕ) : Type 0 where
   pub steps : ℕ
@@ -88,7 +88,7 @@ module _ (g : Drawing) (R : Rings g) (d c total : ℕ) (l : d < darts g) (P : Pa
       counted = rw (add-one, ← q) more;
     })
 
-    pub nearer : e ≢ d → ahead (darts g) (after g) d e < ahead (darts g) (after g) d c
+    pub nearer : e ≢ d → ahead (darts g) (after g) d (after g e) < ahead (darts g) (after g) d (after g c)
     nearer z = rw q (ring-nearer g R d l (P .steps) c (P .walk) (λ r. z (q ∙ r)))
 
     pub done : e ≡ d → total + (c + e) % 2 ≡ changes g (event g d)

@@ -1,7 +1,5 @@
-pub mod Turns
 pub mod Along
 pub mod Changes
-pub mod Firsts
 pub mod Freeing
 pub mod Mixed
 pub mod Peels

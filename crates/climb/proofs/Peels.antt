@@ -23,7 +23,7 @@ use Rattle.drawing.proofs.Rounds.{after-inj}
 use Rattle.words.specs.Tables.{nth}
 use Rattle.chart.specs.Held.{Firsts}
 use Rattle.climb.specs.Peel.{toward, comers, between, Waiting, Ready, Same, Freed, entered, fewer, last, Held, Peeled}
-use Rattle.climb.proofs.Turns.{ahead}
+use Rattle.finite.proofs.Ahead.{ahead}
 use Rattle.climb.proofs.Along.{along-le, along-all}
 use Rattle.climb.proofs.Changes.{ring-sum, ring-part, ring-nearer}
 
@@ -336,7 +336,7 @@ module _ (g : Drawing) (known : EventsKnown g) (R : Rings g) (even : darts g % 2
         held = rw add-one next-held;
       })
 
-      pub around-nearer : e ≢ f → ahead (darts g) (after g) f e < ahead (darts g) (after g) f c
+      pub around-nearer : e ≢ f → ahead (darts g) (after g) f (after g e) < ahead (darts g) (after g) f (after g c)
       around-nearer z = rw q (ring-nearer g R f (A .start) (A .steps) c (A .walk) (λ r. z (q ∙ r)))
 
       pub around-done : e ≡ f → Peeled g left′ list′ (h + 1) t′

@@ -1,10 +1,10 @@
-// Tests 12 and 13: a dart of each event, the changes of direction round an event, the lowest mixed event, a circle or none.
+// Tests 12 and 13: the changes of direction round an event, the lowest mixed event, a circle or none.
 ghost use mathlib.Core.Path.{_≡_};
 ghost use Prim.Native.Nat.{_+_, _≤_, _<_};
 ghost use lib.ListN.{length};
 ghost use Rattle.finite.specs.Says.{Says};
 ghost use Rattle.drawing.specs.Drawing.{arrows, event, enters, changes};
-ghost use Rattle.drawing.specs.Conditions.{EventsKnown, Rings, Joined};
+ghost use Rattle.drawing.specs.Conditions.{EventsKnown, Rings};
 ghost use Rattle.drawing.proofs.Climb.{back as eventBefore, Turning, Turn, Lowest};
 ghost use Rattle.rules.specs.Chart.{drawing};
 ghost use Rattle.words.specs.Tables.{nth};
@@ -13,20 +13,6 @@ ghost use Rattle.chart.specs.Held.{Firsts};
 ghost use Rattle.climb.specs.Evidence.{LowestMixed, CircleFound};
 ghost use Rattle.climb.specs.Back.{Kept, Entering, Chosen, Lower, Written};
 ghost use Rattle.climb.specs.Peel.{Counted, Waiting, Sourced, Ready, Freed, Peeled};
-
-// Fills first with a dart of each event: its highest.
-pub fn first_darts(chart: &[u8], n: usize, first: &mut [u16])
-    requires { ⌜ Shape (now chart) n ⌝ }
-    requires { ⌜ EventsKnown (drawing (now chart)) × Joined (drawing (now chart)) ⌝ }
-    requires { ⌜ length (now first) ≡ drawing (now chart) .events ⌝ }
-    ensures { λ _. ⌜ Firsts (drawing (now (chart .entry))) (now (first .exit)) ⌝ }
-{
-    let mut d = 0;
-    while d < n {
-        words::put(first, chart::event_of(chart, n, d), d);
-        d += 1;
-    }
-}
 
 // How often the direction changes, going once round the event of dart d.
 fn changes_at(chart: &[u8], n: usize, d: usize) -> usize

@@ -22,7 +22,7 @@ use Rattle.finite.specs.Says.{Says}
 use Rattle.finite.proofs.Sum.{sum-cong, sum-add}
 use Rattle.drawing.specs.Drawing.{Drawing, darts, event, face, isFace, room1, pole, touches}
 use Rattle.drawing.specs.Conditions.{EventsKnown, touched, roomOf, Cut}
-use Rattle.finite.proofs.Extra.{bit-yes, eqb-cases}
+use Rattle.finite.proofs.Extra.{bit-yes, eqb-cases, or-left, or-right}
 use Rattle.drawing.proofs.Cuts.{touches-own, touched-corner}
 use Rattle.drawing.proofs.Signed.{larger-one}
 use Rattle.rules.specs.Chart.{drawing}
@@ -32,14 +32,6 @@ use Rattle.cuts.specs.Tables.{Tables}
 use Rattle.cuts.specs.Marks.{Flags, Fit, Marked, Fitted}
 use Rattle.cuts.specs.Sweep.{Hit, Swept}
 use Rattle.finite.proofs.Lists.{all-at, all-of}
-
-or-left : (a b : Bool) → T a → T (a || b)
-or-left true b t = tt
-or-left false b t = absurd t
-
-or-right : (a b : Bool) → T b → T (a || b)
-or-right true b t = tt
-or-right false b t = t
 
 module _ (g : Drawing) where
   pub touched-at : (l : List ℕ) (f i : ℕ) → i < length l → T (touches g (nth l i) f) → T (touched g l f)

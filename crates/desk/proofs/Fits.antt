@@ -22,7 +22,8 @@ use Rattle.rules.proofs.Bytes.{bytes-length}
 use Rattle.chart.specs.Shape.{Shape}
 use Rattle.report.specs.Headers.{header}
 use Rattle.report.proofs.Laws.{report-is, writes-none, writes-past}
-use Rattle.lines.proofs.Tested.{given-small, given-shape}
+use Rattle.lines.proofs.Tested.{given-shape}
+use Rattle.rules.proofs.Chain.{given-highest}
 
 -- the bytes of a report with the entries l
 size-listed : (n : ℕ) (l : List ℕ) → n ≢ 0 → writes n ≡ true → length (report n l) ≡ 8 + 2 * length l
@@ -51,7 +52,7 @@ unfolding report
 none-written n l w = rw w (omega arith)
 
 pub outcome-small : (s r : List ℕ) (n w : ℕ) (r′ : List ℕ) → Outcome s r n w r′ → n ≤ 14
-outcome-small s r n w r′ O = given-small tests s (length r) n (O .given)
+outcome-small s r n w r′ O = given-highest tests s (length r) n (O .given)
 
 pub outcome-fits : (s r : List ℕ) (n w : ℕ) (r′ : List ℕ) → Outcome s r n w r′ → w ≤ reportRoom
 outcome-fits s r n w r′ O = omega (arith, O .written, go (ℕ-discrete n 0) (ℕ-discrete n 12) (ℕ-discrete n 13) (ℕ-discrete n 14))

@@ -11,7 +11,7 @@ use Rattle.drawing.specs.Drawing.{Drawing}
 use Rattle.rules.specs.Chart.{drawing}
 use Rattle.rules.specs.Tests.{Test, short, tests, reportRoom, Given}
 use Rattle.rules.specs.Report.{Entries, report, Outcome}
-use Rattle.rules.proofs.Chain.{given-append, given-left}
+use Rattle.rules.proofs.Chain.{given-append, given-left, given-highest}
 use Rattle.report.proofs.Laws.{writes-none}
 use Rattle.chart.specs.Form.{formTests}
 use Rattle.survey.specs.Past.{surveyTests}
@@ -19,23 +19,11 @@ use Rattle.desk.specs.Run.{lastTests, drawnTests, Run}
 
 -- the survey gives no number above 13
 pub survey-small : (s : List ℕ) (r : ℕ) → Given surveyTests s 0 r → r ≤ 13
-survey-small s r (inl g) = omega (arith, g .1)
-survey-small s r (inr (_, inl g)) = omega (arith, g .1)
-survey-small s r (inr (_, inr (_, inl g))) = omega (arith, g .1)
-survey-small s r (inr (_, inr (_, inr (_, inl g)))) = omega (arith, g .1)
-survey-small s r (inr (_, inr (_, inr (_, inr (_, inl g))))) = omega (arith, g .1)
-survey-small s r (inr (_, inr (_, inr (_, inr (_, inr (_, e)))))) = omega (arith, e)
+survey-small s r g = given-highest surveyTests s 0 r g
 
 -- nor the tests of the form one above 8
 pub form-small : (s : List ℕ) (r : ℕ) → Given formTests s 0 r → r ≤ 8
-form-small s r (inl g) = omega (arith, g .1)
-form-small s r (inr (_, inl g)) = omega (arith, g .1)
-form-small s r (inr (_, inr (_, inl g))) = omega (arith, g .1)
-form-small s r (inr (_, inr (_, inr (_, inl g)))) = omega (arith, g .1)
-form-small s r (inr (_, inr (_, inr (_, inr (_, inl g))))) = omega (arith, g .1)
-form-small s r (inr (_, inr (_, inr (_, inr (_, inr (_, inl g)))))) = omega (arith, g .1)
-form-small s r (inr (_, inr (_, inr (_, inr (_, inr (_, inr (_, inl g))))))) = omega (arith, g .1)
-form-small s r (inr (_, inr (_, inr (_, inr (_, inr (_, inr (_, inr (_, e)))))))) = omega (arith, e)
+form-small s r g = given-highest formTests s 0 r g
 
 no-entries : (g : Drawing) (n : ℕ) → n ≢ 0 → n < 12 → Entries g n []
 no-entries g n z l = simp (ne-eqb n 0 z, ne-eqb n 12 (λ e. omega arith), ne-eqb n 13 (λ e. omega arith), ne-eqb n 14 (λ e. omega arith)) refl

@@ -17,7 +17,7 @@ use Rattle.finite.proofs.Sum.{sum-cong, sum-mono, sum-add, δ-eq, δ-other}
 use Rattle.finite.proofs.Class.{hall}
 use Rattle.drawing.specs.Drawing.{Drawing, darts, event, face, isFace, cornerFace, room1, pole, touches}
 use Rattle.drawing.specs.Conditions.{Rings, label, larges, Labelling, touched, Cut}
-use Rattle.finite.proofs.Extra.{bit-yes, eqb-same, eqb-cases, or-left, or-right, total, total-sum, total-miss}
+use Rattle.finite.proofs.Extra.{bit-yes, eqb-same, eqb-cases, or-left, or-bit, total, total-sum, total-miss}
 use Rattle.drawing.proofs.Faces.{corner-into, corner-face}
 use Rattle.drawing.proofs.Labels.{large-room}
 use Rattle.drawing.proofs.Signed.{larger-one}
@@ -31,11 +31,11 @@ corner-once g k x (v ∷ c) h p =
     elim (ℕ-discrete (event g k) v) [
       | yes e ↦
           let own : bit (touches g v (cornerFace g k) || touched g c (cornerFace g k)) ≡ 1 =
-          or-left (touches g v (cornerFace g k)) (touched g c (cornerFace g k)) (subst (λ (u : ℕ). T (touches g u (cornerFace g k))) e (touches-own g k h)) in
+          bit-yes (touches g v (cornerFace g k) || touched g c (cornerFace g k)) .0 (or-left (touches g v (cornerFace g k)) (touched g c (cornerFace g k)) (subst (λ (u : ℕ). T (touches g u (cornerFace g k))) e (touches-own g k h))) in
           rw (own, δ-eq (event g k) v e) (omega (arith, total-miss (event g k) x c (rw (← e) at (p .0))))
       | no d ↦
           rw (δ-other (event g k) v d)
-          (omega (arith, corner-once g k x c h (p .1), mul-le-mul-right x (or-right (touches g v (cornerFace g k)) (touched g c (cornerFace g k)))))
+          (omega (arith, corner-once g k x c h (p .1), mul-le-mul-right x (or-bit (touches g v (cornerFace g k)) (touched g c (cornerFace g k)))))
     ]
 
 module _ (g : Drawing) (even : darts g % 2 ≡ 0) (R : Rings g) where

@@ -3,7 +3,7 @@
 --   Marked l i, unmarked l    the table l has a mark at i; how many entries of l have none
 --   Traced g was d c now      a walk from d has come to c; the table `now` has the marks of `was`, and one at each dart met, none met twice
 --   Round g seen v            the marked darts of the event v are one walk and back
---   Ringed g seen begun       each event with a mark in `begun` has such a round, and no other event has a marked dart
+--   Ringed g seen v           each event below v that has a dart has such a round, and no other event has a marked dart
 use mathlib.Core.Path.{_≡_, refl, sym, ap, _∙_}
 use mathlib.Core.Logic.{_≢_, _⊎_, inl, inr, ⊎-elim}
 use mathlib.Core.List.{List}
@@ -18,7 +18,7 @@ use Rattle.finite.proofs.Sum.{sum-change, δ-eq, δ-other}
 use Rattle.finite.proofs.Perm.{inj-le}
 use Rattle.finite.proofs.Orbit.{cycle, iter-add, iter-inj}
 use Rattle.drawing.specs.Drawing.{Drawing, darts, event, after}
-use Rattle.drawing.specs.Conditions.{EventsKnown, Rings}
+use Rattle.drawing.specs.Conditions.{Rings}
 use Rattle.drawing.proofs.Rounds.{after-inj}
 
 abbrev pub Keeps : Drawing → ℕ → Type 0
@@ -53,11 +53,10 @@ pub record Round (g : Drawing) (seen : List ℕ) (v : ℕ) : Type 0 where
   pub met : (j : ℕ) → j < steps → Marked seen (iter (after g) j first)
   pub only : (e : ℕ) → Marked seen e → event g e ≡ v → (j : ℕ) × (j < steps) × (iter (after g) j first ≡ e)
 
-pub record Ringed (g : Drawing) (seen begun : List ℕ) : Type 0 where
+pub record Ringed (g : Drawing) (seen : List ℕ) (v : ℕ) : Type 0 where
   pub size : length seen ≡ darts g
-  pub room : g .events ≤ length begun
-  pub rounds : (v : ℕ) → Marked begun v → Round g seen v
-  pub begins : (e : ℕ) → Marked seen e → Marked begun (event g e)
+  pub rounds : (d : ℕ) → d < darts g → event g d < v → Round g seen (event g d)
+  pub below : (e : ℕ) → Marked seen e → event g e < v
 
 -- ---- marks
 
@@ -137,6 +136,12 @@ trace-step g was now d c T l z = record {
     fresh : (j : ℕ) → j < T .steps → iter (after g) j d ≢ c
     fresh j a q = omega (arith, T .met j a, ap (λ (x : ℕ). getD now x 0) q)
 
+-- a walk that marked anything marked its first dart
+pub trace-first : (g : Drawing) (was now : List ℕ) (d c e : ℕ) → Traced g was d c now → Marked now e → ¬ Marked was e → Marked now d
+unfolding iter
+trace-first g was now d c e T m new =
+    ⊎-elim (λ w. absurd (new w)) (λ t. T .met 0 (let h : t .0 < T .steps = t .1 in omega arith)) (T .only e m)
+
 -- ---- rounds, where every successor is a dart of the same event
 
 module _ (g : Drawing) (K : Kept g) where
@@ -150,96 +155,94 @@ module _ (g : Drawing) (K : Kept g) where
   goes-there zero d l = refl
   goes-there (suc k) d l = K (iter (after g) k d) (goes-inside k d l) .1 ∙ goes-there k d l
 
-  module _ (seen begun : List ℕ) (I : Ringed g seen begun) (d : ℕ) (l : d < darts g) where
+  module _ (seen : List ℕ) (v : ℕ) (I : Ringed g seen v) where
     -- a dart without a mark at an event that has its round: the round misses it
-    pub refuse-second : getD seen d 0 < 1 → Marked begun (event g d) → Rings g → ⊥
-    refuse-second z m R =
-        let W = I .rounds (event g d) m in
+    pub refuse-missed : (d : ℕ) → d < darts g → event g d < v → getD seen d 0 < 1 → Rings g → ⊥
+    refuse-missed d l h z R =
+        let W = I .rounds d l h in
         let t = R .meets (W .first) d (W .inside) l (W .there) in
         let c = cycle (after g) (W .first) (W .steps) (W .some) (W .back) (t .0) in
         omega (arith, W .met (c .0) (c .1), ap (λ (x : ℕ). getD seen x 0) (sym (c .2) ∙ t .2))
 
-    module _ (new : getD begun (event g d) 0 < 1) (now : List ℕ) (c : ℕ) (T : Traced g seen d c now) (m : Marked now c) where
-      -- no dart of the event had a mark before
-      bare : (e : ℕ) → event g e ≡ event g d → Marked seen e → ⊥
-      bare e q w = omega (arith, I .begins e w, ap (λ (v : ℕ). getD begun v 0) q)
+    -- an event without darts has nothing to go round
+    pub ringed-skip : ((d : ℕ) → d < darts g → event g d ≢ v) → Ringed g seen (v + 1)
+    ringed-skip none = record {
+      size = I .size;
+      rounds = λ d l h. I .rounds d l (elim (ℕ-discrete (event g d) v) [ yes q ↦ absurd (none d l q) | no q ↦ omega arith ]);
+      below = λ e m. omega (arith, I .below e m);
+    }
 
-      -- the walk met c
-      again : (j : ℕ) × (j < T .steps) × (iter (after g) j d ≡ c)
-      again = ⊎-elim (λ w. absurd (bare c (ap (event g) (sym (T .here)) ∙ goes-there (T .steps) d l) w)) (λ t. t) (T .only c m)
+    module _ (d : ℕ) (l : d < darts g) (there : event g d ≡ v) where
+      -- no dart of the event has a mark yet
+      pub bare : (e : ℕ) → event g e ≡ v → Marked seen e → ⊥
+      bare e q w = omega (arith, I .below e w)
 
-      some : 0 < T .steps
-      some = let h : again .0 < T .steps = again .1 in omega arith
+      module _ (now : List ℕ) (c : ℕ) (T : Traced g seen d c now) (m : Marked now c) where
+        -- the walk met c
+        again : (j : ℕ) × (j < T .steps) × (iter (after g) j d ≡ c)
+        again = ⊎-elim (λ w. absurd (bare c (ap (event g) (sym (T .here)) ∙ goes-there (T .steps) d l ∙ there) w)) (λ t. t) (T .only c m)
 
-      pub trace-marks : Marked now d
-      unfolding iter
-      trace-marks = T .met 0 some
+        some : 0 < T .steps
+        some = let h : again .0 < T .steps = again .1 in omega arith
 
-      -- a walk that ends at a dart met after d: the dart has two before it
-      pub refuse-open : c ≢ d → Rings g → ⊥
-      unfolding iter
-      refuse-open apart R =
-          let j : ℕ = again .0 in
-          let h : j < T .steps = again .1 in
-          let split : j + (T .steps - j) ≡ T .steps = omega arith in
-          let q : d ≡ iter (after g) (T .steps - j) d =
-          iter-inj (darts g) (after g) (after-inj g R) (R .inside) j d (iter (after g) (T .steps - j) d) l (goes-inside (T .steps - j) d l)
-          (again .2 ∙ sym (T .here) ∙ ap (λ (x : ℕ). iter (after g) x d) (sym split) ∙ iter-add (after g) j (T .steps - j) d) in
-          elim (ℕ-discrete j 0) [
-            | yes z ↦ apart (sym (again .2) ∙ ap (λ (x : ℕ). iter (after g) x d) z)
-            | no z ↦ omega (arith, T .once 0 (T .steps - j) some (omega arith) q)
-          ]
+        -- a walk that ends at a dart met after d: the dart has two before it
+        pub refuse-open : c ≢ d → Rings g → ⊥
+        unfolding iter
+        refuse-open apart R =
+            let j : ℕ = again .0 in
+            let h : j < T .steps = again .1 in
+            let split : j + (T .steps - j) ≡ T .steps = omega arith in
+            let q : d ≡ iter (after g) (T .steps - j) d =
+            iter-inj (darts g) (after g) (after-inj g R) (R .inside) j d (iter (after g) (T .steps - j) d) l (goes-inside (T .steps - j) d l)
+            (again .2 ∙ sym (T .here) ∙ ap (λ (x : ℕ). iter (after g) x d) (sym split) ∙ iter-add (after g) j (T .steps - j) d) in
+            elim (ℕ-discrete j 0) [
+              | yes z ↦ apart (sym (again .2) ∙ ap (λ (x : ℕ). iter (after g) x d) z)
+              | no z ↦ omega (arith, T .once 0 (T .steps - j) some (omega arith) q)
+            ]
 
-      -- a walk that comes back to d is the round of its event
-      pub ring-closed : EventsKnown g → c ≡ d → Ringed g now (set begun (event g d) 1)
-      ring-closed E q = record {
-        size = T .size ∙ I .size;
-        room = omega (arith, I .room, length-set begun (event g d) 1);
-        rounds = λ v w. elim (ℕ-discrete v (event g d)) [
-          | yes s ↦ record {
-            first = d;
-            inside = l;
-            there = sym s;
-            steps = T .steps;
-            some = some;
-            few = inj-le (T .steps) (darts g) (λ j. iter (after g) j d) (T .once) (λ j h. goes-inside j d l);
-            back = T .here ∙ q;
-            met = T .met;
-            only = λ e x r. ⊎-elim (λ o. absurd (bare e (r ∙ s) o)) (λ t. t) (T .only e x);
-          }
-          | no s ↦
-              let W = I .rounds v (omega (arith, getD-set-other begun (event g d) v 1 0 s)) in
-              record {
-                first = W .first;
-                inside = W .inside;
-                there = W .there;
-                steps = W .steps;
-                some = W .some;
-                few = W .few;
-                back = W .back;
-                met = λ j h. T .still (iter (after g) j (W .first)) (W .met j h);
-                only = λ e x r. ⊎-elim (λ o. W .only e o r) (λ t. absurd (s (sym r ∙ on e t))) (T .only e x);
-              }
-        ];
-        begins = λ e x. ⊎-elim
-            (λ o. mark-still begun (event g d) (event g e) room (I .begins e o))
-            (λ t. mark-here begun (event g d) (event g e) room (on e t))
-            (T .only e x);
-      }
-        where
-          room : event g d < length begun
-          room = omega (arith, E d l, I .room)
-
-          on : (e : ℕ) → (j : ℕ) × (j < T .steps) × (iter (after g) j d ≡ e) → event g e ≡ event g d
-          on e t = ap (event g) (sym (t .2)) ∙ goes-there (t .0) d l
+        -- a walk that comes back to d is the round of its event
+        pub ring-closed : c ≡ d → Ringed g now (v + 1)
+        ring-closed q = record {
+          size = T .size ∙ I .size;
+          rounds = λ e k h. elim (ℕ-discrete (event g e) v) [
+            | yes s ↦ record {
+              first = d;
+              inside = l;
+              there = there ∙ sym s;
+              steps = T .steps;
+              some = some;
+              few = inj-le (T .steps) (darts g) (λ j. iter (after g) j d) (T .once) (λ j h. goes-inside j d l);
+              back = T .here ∙ q;
+              met = T .met;
+              only = λ x y r. ⊎-elim (λ o. absurd (bare x (r ∙ s) o)) (λ t. t) (T .only x y);
+            }
+            | no s ↦
+                let W = I .rounds e k (omega arith) in
+                record {
+                  first = W .first;
+                  inside = W .inside;
+                  there = W .there;
+                  steps = W .steps;
+                  some = W .some;
+                  few = W .few;
+                  back = W .back;
+                  met = λ j h. T .still (iter (after g) j (W .first)) (W .met j h);
+                  only = λ x y r. ⊎-elim (λ o. W .only x o r) (λ t. absurd (s (sym r ∙ on x t))) (T .only x y);
+                }
+          ];
+          below = λ e x. ⊎-elim (λ o. omega (arith, I .below e o)) (λ t. omega (arith, on e t)) (T .only e x);
+        }
+          where
+            on : (e : ℕ) → (j : ℕ) × (j < T .steps) × (iter (after g) j d ≡ e) → event g e ≡ v
+            on e t = ap (event g) (sym (t .2)) ∙ goes-there (t .0) d l ∙ there
 
   -- every dart has its mark
-  pub ringed-all : (seen begun : List ℕ) → Ringed g seen begun → ((d : ℕ) → d < darts g → Marked seen d) → Rings g
-  ringed-all seen begun I all = record {
+  pub ringed-all : (seen : List ℕ) (v : ℕ) → Ringed g seen v → ((d : ℕ) → d < darts g → Marked seen d) → Rings g
+  ringed-all seen v I all = record {
     inside = λ d l. K d l .0;
     stays = λ d l. K d l .1;
     meets = λ d e k l q.
-        let W = I .rounds (event g d) (I .begins d (all d k)) in
+        let W = I .rounds d k (I .below d (all d k)) in
         along W d e (W .only d (all d k) refl) (W .only e (all e l) (sym q));
   }
     where
@@ -270,11 +273,9 @@ module _ (g : Drawing) (K : Kept g) where
           ]
 
 -- no mark yet
-pub ringed-none : (g : Drawing) (seen begun : List ℕ) → length seen ≡ darts g → g .events ≤ length begun
-    → ((e : ℕ) → getD seen e 0 ≡ 0) → ((v : ℕ) → getD begun v 0 ≡ 0) → Ringed g seen begun
-ringed-none g seen begun s r a b = record {
+pub ringed-none : (g : Drawing) (seen : List ℕ) → length seen ≡ darts g → ((e : ℕ) → getD seen e 0 ≡ 0) → Ringed g seen 0
+ringed-none g seen s a = record {
   size = s;
-  room = r;
-  rounds = λ v m. absurd (omega (arith, b v));
-  begins = λ e m. absurd (omega (arith, a e));
+  rounds = λ d l h. absurd (omega arith);
+  below = λ e m. absurd (omega (arith, a e));
 }

@@ -17,7 +17,7 @@ use Rattle.rules.specs.Report.{good, bad, form, wellFormed, resultIn, writes, b
 use Rattle.rules.specs.Judge.{Verdict, chart, J, fits, Either, Deserves, Judged}
 use Rattle.report.proofs.Laws.{writes-past}
 use Rattle.report.proofs.Good.{form-parts, good-writes}
-use Rattle.lines.proofs.Tested.{given-small}
+use Rattle.rules.proofs.Chain.{given-highest}
 use Rattle.export.specs.Packed.{packForm, packBody, packVerdict}
 
 pub good-small : (s : List ℕ) (r c : ℕ) → good r c ≡ form s → ((i : ℕ) → getD s i 0 < 256) → (r ≤ 14) × (c < 65536)
@@ -52,5 +52,5 @@ deserves-small g r j = go (Labelling g (entries r)) (Cut g (entries r)) (fits g 
     go P Q false b d = omega arith
 
 pub verdict-small : (s r : List ℕ) (v : Verdict) → Judged s r v → packVerdict v < 100000
-verdict-small s r v (inl p) = omega (arith, ap packVerdict (p .3), given-small faults s 0 (p .0) (p .2))
+verdict-small s r v (inl p) = omega (arith, ap packVerdict (p .3), given-highest faults s 0 (p .0) (p .2))
 verdict-small s r v (inr p) = omega (arith, ap packVerdict (p .3), deserves-small (drawing s) r (p .0) (p .2))

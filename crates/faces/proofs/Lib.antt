@@ -1,4 +1,3 @@
-pub mod Ahead
 pub mod Painting
 pub mod Looking
 pub mod Euler

@@ -19,7 +19,7 @@ use Rattle.drawing.proofs.Twins.{twin-into, twin-twin}
 use Rattle.drawing.proofs.Faces.{walk-into, walk-inj, face-same, face-twin, corner-twin}
 use Rattle.words.specs.Tables.{nth}
 use Rattle.faces.specs.Walked.{Paintable, Painted}
-use Rattle.faces.proofs.Ahead.{ahead, walk-falls}
+use Rattle.finite.proofs.Ahead.{ahead, orbit-nearer}
 
 -- the first k corners of the walk have d, and the corners of other faces are as they were
 pub record Traced (g : Drawing) (d k : ℕ) (old new : List ℕ) : Type 0 where
@@ -99,7 +99,7 @@ module _ {s : List ℕ} {n d : ℕ} {old : List ℕ} (A : Paintable s n d old) w
       step q = record { steps = P .steps + 1; way = rw next (walk-step (walk g) d (P .steps) e (P .way) (λ r. q (next ∙ r))); traced = kept }
 
       pub falls : e′ ≢ d → ahead (darts g) (walk g) d (walk g e′) < ahead (darts g) (walk g) d (walk g e)
-      falls q = rw next (walk-falls (darts g) (walk g) d e (walk-inj g even R) (walk-into g even R) dart reached (λ r. q (next ∙ r)))
+      falls q = rw next (orbit-nearer (darts g) (walk g) d e (walk-inj g even R) (walk-into g even R) dart reached (λ r. q (next ∙ r)))
 
       pub done : e′ ≡ d → Painted g d old new′
       done q = record {

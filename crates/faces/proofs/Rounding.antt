@@ -16,7 +16,7 @@ use Rattle.drawing.proofs.Rounds.{after-inj, after-reach, reach-stays}
 use Rattle.rules.specs.Chart.{drawing}
 use Rattle.rules.proofs.Bytes.{darts-even}
 use Rattle.faces.specs.Joining.{From, along, Marked, Queued, Ready, Grown, Pushed, Rounded}
-use Rattle.faces.proofs.Ahead.{ahead, walk-falls}
+use Rattle.finite.proofs.Ahead.{ahead, orbit-nearer}
 use Rattle.faces.proofs.Pushing.{grown-none, grown-more}
 
 pub record Going (g : Drawing) (d : ℕ) (m₀ q₀ : List ℕ) (t₀ : ℕ) (m q : List ℕ) (t e : ℕ) : Type 0 where
@@ -82,7 +82,7 @@ module _ {s : List ℕ} {n d : ℕ} {m₀ q₀ : List ℕ} {t₀ : ℕ} (A : Rea
         }
 
         pub falls : e′ ≢ d → ahead (darts g) (after g) d (after g e′) < ahead (darts g) (after g) d (after g e)
-        falls o = rw goes (walk-falls (darts g) (after g) d e (after-inj g R) (R .inside) dart reached (λ r. o (goes ∙ r)))
+        falls o = rw goes (orbit-nearer (darts g) (after g) d e (after-inj g R) (R .inside) dart reached (λ r. o (goes ∙ r)))
 
         pub done : e′ ≡ d → Rounded g d m₀ q₀ t₀ m′ q′ t′
         done o = record {

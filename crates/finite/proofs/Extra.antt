@@ -2,8 +2,8 @@
 --   bit-yes          a test passes exactly if its bit is 1
 --   eqb-same         two equal numbers pass the test of equality
 --   eqb-cases        what the test of equality says
---   or-left          a test with another one beside it, where the first passes
---   or-right         the same in general: it passes no less than the second
+--   or-left, or-right  one of two tests passes, so they pass together
+--   or-bit           and together they pass no less than the second
 --   δ-some           an indicator that is not 0 indicates
 --   total f l        the sum of f over the list l
 --   total-sum        a sum over a list of sums is a sum of sums over the list
@@ -48,14 +48,18 @@ eqb-cases a b = elim (ℕ-discrete a b) [ yes e ↦ inl (eqb-same a b e, e) | no
 pub δ-some : (a b : ℕ) → 0 < δ a b → a ≡ b
 δ-some a b h = elim (ℕ-discrete a b) [ yes e ↦ e | no d ↦ absurd (omega (arith, δ-other a b d)) ]
 
-pub or-left : (a b : Bool) → T a → bit (a || b) ≡ 1
-or-left true b t = refl
+pub or-left : (a b : Bool) → T a → T (a || b)
+or-left true b t = tt
 or-left false b t = absurd t
 
-pub or-right : (a b : Bool) → bit b ≤ bit (a || b)
-or-right true true = omega arith
-or-right true false = omega arith
-or-right false b = omega arith
+pub or-right : (a b : Bool) → T b → T (a || b)
+or-right true b t = tt
+or-right false b t = t
+
+pub or-bit : (a b : Bool) → bit b ≤ bit (a || b)
+or-bit true true = omega arith
+or-bit true false = omega arith
+or-bit false b = omega arith
 
 -- ---- sums over a list
 

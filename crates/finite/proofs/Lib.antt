@@ -5,6 +5,8 @@ pub mod Even
 pub mod Orbit
 pub mod Class
 pub mod Walk
+pub mod Ahead
+pub mod Filled
 pub mod Yes
 pub mod Tally
 pub mod Extra

@@ -1,6 +1,6 @@
 -- Orbits of an injective map of the numbers below n into themselves. Assumes nothing.
 use mathlib.Core.Path.{_≡_, refl, sym, ap, ap₂, _∙_}
-use mathlib.Core.Logic.{_↔_, _⊎_, inl, inr}
+use mathlib.Core.Logic.{_≢_, _↔_, _⊎_, inl, inr}
 use Prim.Native.Nat.{ℕ, zero, suc, _+_, _*_, _-_, _<_, _≤_, min}
 use native.Mathlib.Nat.{add-suc, add-comm, suc-add, zero-add, min-le-left, min-le-right, le-antisymm}
 use native.Mathlib.Decide.{ℕ-discrete, decLe, decLt}
@@ -15,6 +15,12 @@ pub iter-add : (p : ℕ → ℕ) (j k d : ℕ) → iter p (j + k) d ≡ iter p j
 unfolding iter
 iter-add p zero k d = rw zero-add
 iter-add p (suc j) k d = rw suc-add (ap p (iter-add p j k d))
+
+-- a step may be taken first or last
+pub iter-first : (p : ℕ → ℕ) (k d : ℕ) → iter p (suc k) d ≡ iter p k (p d)
+unfolding iter
+iter-first p zero d = refl
+iter-first p (suc k) d = ap p (iter-first p k d)
 
 pub least-le : (n : ℕ) (f : ℕ → ℕ) (k : ℕ) → k ≤ n → least n f ≤ f k
 unfolding least
@@ -42,6 +48,20 @@ cycle p d t pos back (suc k) =
       | yes e ↦ (0, pos, ap p (r .2) ∙ ap (λ (x : ℕ). iter p x d) e ∙ back)
       | no e ↦ (suc (r .0), omega arith, ap p (r .2))
     ]
+
+-- up to its first return a walk meets nothing twice
+pub fresh-inj : (p : ℕ → ℕ) (d m : ℕ) → iter p m d ≡ d → ((j : ℕ) → 0 < j → j < m → iter p j d ≢ d) → Inj m (λ k. iter p k d)
+fresh-inj p d m back fresh i j a b q =
+    elim (decLt i j) [
+      | yes l ↦ absurd (twice i j l b q)
+      | no l ↦ elim (decLt j i) [ yes l′ ↦ absurd (twice j i l′ a (sym q)) | no l′ ↦ omega arith ]
+    ]
+  where
+    twice : (i j : ℕ) → i < j → j < m → iter p i d ≡ iter p j d → ⊥
+    twice i j l h q =
+        let split : m - j + j ≡ m = omega arith in
+        fresh (m - j + i) (omega arith) (omega arith)
+        (iter-add p (m - j) i d ∙ ap (iter p (m - j)) q ∙ sym (iter-add p (m - j) j d) ∙ ap (λ (x : ℕ). iter p x d) split ∙ back)
 
 pub reach-trans : (p : ℕ → ℕ) (a b c : ℕ) → Reach p a b → Reach p b c → Reach p a c
 reach-trans p a b c s t = (t .0 + s .0, iter-add p (t .0) (s .0) a ∙ ap (iter p (t .0)) (s .1) ∙ t .1)
@@ -139,20 +159,9 @@ module _ (n : ℕ) (p : ℕ → ℕ) (inj : Inj n p) (into : Into n n p) where
       Back : ℕ → Type 0
       Back k = (0 < k) × (iter p k d ≡ d)
 
-      early : (m i j : ℕ) → ((k : ℕ) → k < m → Back k → ⊥) → i < j → j < m → iter p i d ≡ iter p j d → ⊥
-      early m i j none ij jm q =
-          let split : i + (j - i) ≡ j = omega arith in
-          none (j - i) (omega arith)
-          (omega arith, sym (iter-inj i d (iter p (j - i) d) l (iter-into (j - i) d l) (q ∙ ap (λ (x : ℕ). iter p x d) (sym split) ∙ iter-add p i (j - i) d)))
-
-      apart : (m : ℕ) → ((k : ℕ) → k < m → Back k → ⊥) → (i j : ℕ) → i < m → j < m → iter p i d ≡ iter p j d → Dec (i < j) → Dec (j < i) → i ≡ j
-      apart m none i j a b q (yes s) t = absurd (early m i j none s b q)
-      apart m none i j a b q (no s) (yes t) = absurd (early m j i none t a (sym q))
-      apart m none i j a b q (no s) (no t) = omega arith
-
       go : ((m : ℕ) × (m < suc n) × Back m × ((k : ℕ) → k < m → Back k → ⊥)) ⊎ ((k : ℕ) → k < suc n → Back k → ⊥)
           → (m : ℕ) × (0 < m) × (iter p m d ≡ d) × Inj m (λ k. iter p k d)
-      go (inl t) = (t .0, t .2 .0, t .2 .1, λ i j a b q. apart (t .0) (t .3) i j a b q (decLt i j) (decLt j i))
+      go (inl t) = (t .0, t .2 .0, t .2 .1, fresh-inj p d (t .0) (t .2 .1) (λ j a b q. t .3 j b (a, q)))
       go (inr none) = let t = returns d l in absurd (none (t .0) (let h : t .0 ≤ n = t .2 in omega arith) (t .1, t .3))
 
   pub lowest-into : Into n n (lowest n p)

@@ -10,33 +10,13 @@ use lib.Seq.{take-at}
 use Rattle.drawing.specs.Drawing.{darts}
 use Rattle.drawing.specs.Conditions.{EventsKnown}
 use Rattle.rules.specs.Chart.{drawing}
-use Rattle.rules.specs.Tests.{Test, number, Passes, Given, reportRoom, tests, short, mark, version, counts, size, unknown, own, outer, order, parted, crossing, mixing, circle, noRoom}
+use Rattle.rules.specs.Tests.{Test, number, Passes, Given, reportRoom, tests, short, mark, version, counts, size, unknown}
 use Rattle.rules.specs.Report.{writes, report, Outcome}
+use Rattle.rules.proofs.Chain.{given-highest}
 use Rattle.rules.proofs.Bytes.{darts-drawing}
 use Rattle.chart.specs.Shape.{Shape}
 use Rattle.chart.proofs.Form.{shape}
 use Rattle.lines.specs.Printed.{Reported}
-
-number-small : (t : Test) → number t ≤ 14
-number-small short = omega arith
-number-small mark = omega arith
-number-small version = omega arith
-number-small counts = omega arith
-number-small size = omega arith
-number-small unknown = omega arith
-number-small own = omega arith
-number-small outer = omega arith
-number-small order = omega arith
-number-small parted = omega arith
-number-small crossing = omega arith
-number-small mixing = omega arith
-number-small circle = omega arith
-number-small noRoom = omega arith
-
-pub given-small : (ts : List Test) (s : List ℕ) (r n : ℕ) → Given ts s r n → n ≤ 14
-given-small [] s r n g = omega arith
-given-small (t ∷ ts) s r n (inl g) = omega (arith, g .1, number-small t)
-given-small (t ∷ ts) s r n (inr g) = given-small ts s r n (g .1)
 
 -- a result that writes a report is past every test whose number writes none
 past : (t : Test) (ts : List Test) (s : List ℕ) (r n : ℕ) → (T (writes (number t)) → ⊥) → T (writes n) → Given (t ∷ ts) s r n → Passes t s r × Given ts s r n
@@ -63,7 +43,7 @@ module _ (s r : List ℕ) (n w : ℕ) (r′ : List ℕ) (O : Outcome s r n w r�
     entries = O .entries;
     stretch = outcome-stretch;
     allowed = O .allowed;
-    small = given-small tests s (length r) n (O .given);
+    small = given-highest tests s (length r) n (O .given);
     room = omega (arith, length-take w r′);
     shape = λ t. given-shape s (length r) n (O .given) t .0;
     known = λ t. given-shape s (length r) n (O .given) t .1;

@@ -8,6 +8,7 @@ use native.Mathlib.Omega.{arith}
 use lib.Dec.{T}
 use lib.ListN.{length, getD, take, replicate, length-replicate, getD-replicate}
 use Rattle.finite.specs.Sums.{bit}
+use Rattle.finite.proofs.Filled.{blank}
 use Rattle.finite.proofs.Sum.{sum-term, sum-mono, sum-const}
 use Rattle.drawing.specs.Drawing.{darts, pole}
 use Rattle.finite.proofs.Extra.{bit-yes}
@@ -15,20 +16,10 @@ use Rattle.rules.specs.Chart.{drawing}
 use Rattle.words.specs.Tables.{nth}
 use Rattle.chart.specs.Shape.{Shape}
 use Rattle.placing.specs.Search.{member, Listing}
-use Rattle.placing.proofs.Listing.{blank}
 use Rattle.placing.proofs.Labelled.{is-labelling}
 use Rattle.placing.proofs.Writes.{is-cut}
 use Rattle.places.specs.Found.{Ready, Found}
 use Rattle.places.specs.Steps.{Reads, Tables, Begin, Settled, Labels}
-
--- a part of a filled table
-take-filled : (m n x : ℕ) → n ≤ m → take n (replicate m x) ≡ replicate n x
-take-filled m zero x h = refl
-take-filled zero (suc n) x h = absurd (not-suc-le-zero h)
-take-filled (suc m) (suc n) x h = ap (λ (l : List ℕ). x ∷ l) (take-filled m n x (le-of-suc-le-suc h))
-
-pub lent : (m n x : ℕ) → n ≤ m → take (n - 0) (replicate m x) ≡ replicate n x
-lent m n x h = let e : n - 0 ≡ n = omega arith in rw e (take-filled m n x h)
 
 module _ {s : List ℕ} {n : ℕ} {here poles first spare : List ℕ} (Z : Shape s n) (Y : Ready (drawing s) here poles first spare) where
   bits : (v : ℕ) → v < drawing s .events → nth poles v ≤ 1

@@ -25,10 +25,6 @@ face-of here c l = default here c (length here) 0 l
 pub face-none : (here : List ℕ) (c : ℕ) → length here ≤ c → faceOf here c ≡ length here
 face-none here c l = List·getD-eq-default here (length here) l
 
--- no entry past the end
-pub past : (l : List ℕ) (i : ℕ) → length l ≤ i → nth l i ≡ 0
-past l i h = List·getD-eq-default l 0 h
-
 module _ {g : Drawing} {here : List ℕ} (B : Board g here) where
   pub here-into : Into (darts g) (darts g) (nth here)
   here-into c l = rw (B .faced .each c l) (corner-into g (B .even) (B .rings) c l)

@@ -10,11 +10,12 @@ use lib.ListN.{length}
 use Rattle.finite.specs.Sums.{sum, δ, class}
 use Rattle.finite.proofs.Sum.{δ-other, δ-le, sum-cong}
 use Rattle.finite.proofs.Class.{cut}
+use Rattle.finite.proofs.Filled.{past}
 use Rattle.drawing.specs.Drawing.{Drawing, darts, event}
 use Rattle.words.specs.Tables.{nth}
 use Rattle.placing.specs.Board.{Board, Own, faceOf, load, hold, Valid, Crowd}
 use Rattle.placing.specs.Search.{Seen, Grown, Touched, PlacedIn, Scanned, From, Search, Way, member}
-use Rattle.placing.proofs.Boards.{face-of, face-none, past, here-into}
+use Rattle.placing.proofs.Boards.{face-of, face-none, here-into}
 use Rattle.placing.proofs.Listing.{seen-kept, ends-few}
 
 -- the old entries stand

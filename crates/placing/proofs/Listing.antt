@@ -9,9 +9,9 @@ use lib.ListN.{length, getD, set, length-set, replicate, length-replicate, getD-
 use lib.Seq.{getD-set-same, getD-set-other}
 use Rattle.finite.specs.Steps.{Into, Inj}
 use Rattle.finite.proofs.Perm.{inj-le, onto}
+use Rattle.finite.proofs.Filled.{past}
 use Rattle.words.specs.Tables.{nth}
 use Rattle.placing.specs.Search.{Seen, Blank, Held, Grown, Listed}
-use Rattle.placing.proofs.Boards.{past}
 
 -- ---- growing
 
@@ -45,12 +45,6 @@ grown-as {via′ = via′} G sub = record {
   same = G .same;
   new = λ i a b. sub (nth via′ i) (G .held .entry i b .0) (G .new i a b);
 }
-
-pub blank : (rank : List ℕ) (k : ℕ) → rank ≡ replicate k 0 → Blank rank
-blank rank k e f = elim (decLt f k) [
-  | yes q ↦ ap (λ (l : List ℕ). getD l f 0) e ∙ getD-replicate {A = ℕ} k f 0 0 q
-  | no q ↦ past rank f (omega (arith, ap length e ∙ length-replicate k 0))
-]
 
 pub held-none : {here rank via : List ℕ} → ((c : ℕ) → c < length here → nth here c < length here) → length rank ≡ length here → length via ≡ length here → Blank rank
     → Held here rank via 0

@@ -9,12 +9,13 @@ use native.Mathlib.Omega.{arith}
 use native.Mathlib.Numerals.{add-one}
 use lib.ListN.{length, set, replicate, length-replicate}
 use Rattle.finite.proofs.Decide.{any?, _×?_, _⊎?_}
+use Rattle.finite.proofs.Filled.{blank}
 use Rattle.drawing.specs.Drawing.{Drawing, darts, event}
 use Rattle.words.specs.Tables.{nth}
 use Rattle.placing.specs.Board.{Board, hold, Valid, All, Crowd}
 use Rattle.placing.specs.Search.{Seen, Held, Listed, From, Search, Way, member, Placed, Sofar}
 use Rattle.placing.proofs.Boards.{here-into}
-use Rattle.placing.proofs.Listing.{blank, held-none, listed-more, end-in}
+use Rattle.placing.proofs.Listing.{held-none, listed-more, end-in}
 use Rattle.placing.proofs.Moves.{moving-start, shift}
 use Rattle.placing.proofs.Finds.{from-kept, stuck}
 use Rattle.placing.proofs.Settles.{settle-start, settle-done, settle-skip, settle-free, settle-add, settle-poles, settle-crowd}

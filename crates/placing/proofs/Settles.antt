@@ -8,11 +8,12 @@ use native.Mathlib.Omega.{arith}
 use lib.ListN.{length}
 use Rattle.finite.specs.Sums.{δ}
 use Rattle.finite.proofs.Sum.{δ-other, sum-cong, sum-zero}
+use Rattle.finite.proofs.Filled.{past}
 use Rattle.drawing.specs.Drawing.{Drawing, darts}
 use Rattle.words.specs.Tables.{nth}
 use Rattle.placing.specs.Board.{Board, faceOf, load, hold, Nobody, All, Crowd}
 use Rattle.placing.specs.Search.{member, Placed, Sofar}
-use Rattle.placing.proofs.Boards.{face-none, past}
+use Rattle.placing.proofs.Boards.{face-none}
 
 -- who is not placed is nowhere
 away : {g : Drawing} {here : List ℕ} (L : List ℕ) → Board g here → (v : ℕ) → darts g ≤ nth L v → faceOf here (nth L v) ≡ darts g

@@ -13,13 +13,14 @@ use lib.Seq.{getD-set-same, getD-set-other}
 use Rattle.finite.specs.Sums.{sum}
 use Rattle.finite.specs.Lists.{All, Ascending}
 use Rattle.finite.proofs.Sum.{δ-eq, δ-other}
+use Rattle.finite.proofs.Filled.{past}
 use Rattle.drawing.specs.Drawing.{Drawing, darts, face, room1, pole}
 use Rattle.drawing.specs.Conditions.{Cut}
 use Rattle.drawing.proofs.Cuts.{cut-of}
 use Rattle.words.specs.Tables.{nth}
 use Rattle.placing.specs.Board.{Crowd}
 use Rattle.placing.specs.Search.{member, Listing}
-use Rattle.placing.proofs.Boards.{face-of, face-none, past}
+use Rattle.placing.proofs.Boards.{face-of, face-none}
 
 -- ---- writing
 

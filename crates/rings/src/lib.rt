@@ -1,13 +1,14 @@
-// Test 9: order. Rings are followed once, with a mark at each dart met and at each event whose ring has begun.
+// Test 9: order. The ring of each event is followed once, with a mark at each dart met. A dart of each event.
 ghost use mathlib.Core.Path.{_≡_};
-ghost use Prim.Native.Nat.{_<_};
-ghost use lib.ListN.{length};
+ghost use Prim.Native.Nat.{ℕ, _+_, _<_, _≤_};
+ghost use lib.ListN.{length, getD};
 ghost use Rattle.finite.specs.Says.{Says};
 ghost use Rattle.drawing.specs.Conditions.{EventsKnown, Rings};
-ghost use Rattle.drawing.proofs.Ringed.{Keeps, Kept, Ringed};
+ghost use Rattle.drawing.proofs.Ringed.{Keeps, Kept, Marked, Ringed};
 ghost use Rattle.rules.specs.Chart.{drawing};
 ghost use Rattle.chart.specs.Shape.{Shape};
-ghost use Rattle.rings.specs.Rounds.{Ended, Passed, Blank};
+ghost use Rattle.chart.specs.Held.{Picked};
+ghost use Rattle.rings.specs.Rounds.{Ended, Passed};
 
 // Is the successor of d a dart, and of d's event?
 fn keeps(chart: &[u8], n: usize, d: usize) -> bool
@@ -36,66 +37,111 @@ fn all_keep(chart: &[u8], n: usize) -> bool
     true
 }
 
-// Marks the darts met from d on, up to the first that has a mark already. Is that d?
+// Fills first with a dart of each event that has one, its highest, and with 65535 for the others.
+pub fn first_darts(chart: &[u8], n: usize, first: &mut [u16])
+    requires { ⌜ Shape (now chart) n × EventsKnown (drawing (now chart)) ⌝ }
+    requires { ⌜ length (now first) ≡ drawing (now chart) .events ⌝ }
+    ensures { λ _. ⌜ Picked (drawing (now (chart .entry))) (now (first .exit)) ⌝ }
+{
+    words::fill(first, 65535);
+    let mut d = 0;
+    while d < n {
+        words::put(first, chart::event_of(chart, n, d), d);
+        d += 1;
+    }
+}
+
+// Marks the darts met from d on, until d comes again: true; or until another does: false.
 fn trace(chart: &[u8], n: usize, d: usize, seen: &mut [u8]) -> bool
     requires { ⌜ Shape (now chart) n × Kept (drawing (now chart)) ⌝ }
-    requires { ⌜ (d < n) × (length (now seen) ≡ n) ⌝ }
+    requires { ⌜ (d < n) × (length (now seen) ≡ n) × (getD (now seen) d 0 < 1) ⌝ }
     ensures { λ r. ⌜ Ended (drawing (now (chart .entry))) (now (seen .entry)) d r (now (seen .exit)) ⌝ }
 {
     let mut c = d;
-    while seen[c] < 1 {
+    loop {
         seen[c] = 1;
         c = chart::next_of(chart, n, c);
+        if c == d {
+            return true;
+        }
+        if 1 <= seen[c] {
+            return false;
+        }
     }
-    c == d
 }
 
-// A dart without a mark begins the ring of its event, which must have none yet. False: some event's darts are not one ring.
-fn look(chart: &[u8], n: usize, d: usize, seen: &mut [u8], begun: &mut [u8]) -> bool
-    requires { ⌜ Shape (now chart) n × (d < n) ⌝ }
-    requires { ⌜ Kept (drawing (now chart)) × EventsKnown (drawing (now chart)) ⌝ }
-    requires { ⌜ Ringed (drawing (now chart)) (now seen) (now begun) ⌝ }
-    ensures { λ r. ⌜ Passed (drawing (now (chart .entry))) d (now (seen .entry)) r (now (seen .exit)) (now (begun .exit)) ⌝ }
+// Goes round event v, if it has a dart. False: its darts are not one ring.
+fn follow(chart: &[u8], n: usize, first: &[u16], v: usize, seen: &mut [u8]) -> bool
+    requires { ⌜ Shape (now chart) n × Kept (drawing (now chart)) ⌝ }
+    requires { ⌜ Picked (drawing (now chart)) (now first) × (v < length (now first)) × Ringed (drawing (now chart)) (now seen) v ⌝ }
+    ensures { λ r. ⌜ Passed (drawing (now (chart .entry))) (v + 1) r (now (seen .exit)) ⌝ }
 {
-    if 1 <= seen[d] {
+    let d = words::get(first, v);
+    if n <= d {
         return true;
     }
-    let v = chart::event_of(chart, n, d);
-    if 1 <= begun[v] {
-        return false;
-    }
-    begun[v] = 1;
     trace(chart, n, d, seen)
 }
 
-// Looks at every dart in turn; the tables come without a mark.
-fn look_at_all(chart: &[u8], n: usize, seen: &mut [u8], begun: &mut [u8]) -> bool
-    requires { ⌜ Shape (now chart) n × EventsKnown (drawing (now chart)) ⌝ }
-    requires { ⌜ Kept (drawing (now chart)) ⌝ }
-    requires { ⌜ (length (now seen) ≡ n) × (length (now begun) ≡ 1024) ⌝ }
-    requires { ⌜ Blank (now seen) × Blank (now begun) ⌝ }
-    ensures { λ r. ⌜ Says r (Rings (drawing (now (chart .entry)))) ⌝ }
+// Goes round each event in turn.
+fn follow_all(chart: &[u8], n: usize, first: &[u16], seen: &mut [u8]) -> bool
+    requires { ⌜ Shape (now chart) n × Kept (drawing (now chart)) ⌝ }
+    requires { ⌜ Picked (drawing (now chart)) (now first) × Ringed (drawing (now chart)) (now seen) 0 ⌝ }
+    ensures { λ r. ⌜ Passed (drawing (now (chart .entry))) (drawing (now (chart .entry)) .events) r (now (seen .exit)) ⌝ }
 {
-    let mut d = 0;
-    while d < n {
-        if !look(chart, n, d, seen, begun) {
+    let mut v = 0;
+    while v < first.len() {
+        if !follow(chart, n, first, v, seen) {
             return false;
         }
-        d += 1;
+        v += 1;
     }
     true
 }
 
+// The lower of two marks.
+fn lower(a: u8, b: u8) -> u8
+    ensures { λ r. ⌜ (1 ≤ r → (1 ≤ a) × (1 ≤ b)) × (r < 1 → 1 ≤ a → b < 1) ⌝ }
+{
+    if b < a { b } else { a }
+}
+
+// Has every dart its mark? The lowest mark of all tells, without a branch on any of them.
+fn all_marked(seen: &[u8]) -> bool
+    ensures { λ r. ⌜ Says r ((d : ℕ) → d < length (now (seen .entry)) → Marked (now (seen .entry)) d) ⌝ }
+{
+    let mut low: u8 = 1;
+    let mut d = 0;
+    while d < seen.len() {
+        low = lower(low, seen[d]);
+        d += 1;
+    }
+    0 < low
+}
+
+// The test on its tables: a dart of each event, and no mark.
+fn rings_close(chart: &[u8], n: usize, first: &[u16], seen: &mut [u8]) -> bool
+    requires { ⌜ Shape (now chart) n × Kept (drawing (now chart)) × EventsKnown (drawing (now chart)) ⌝ }
+    requires { ⌜ Picked (drawing (now chart)) (now first) × Ringed (drawing (now chart)) (now seen) 0 ⌝ }
+    ensures { λ r. ⌜ Says r (Rings (drawing (now (chart .entry)))) ⌝ }
+{
+    if !follow_all(chart, n, first, seen) {
+        return false;
+    }
+    all_marked(seen)
+}
+
 // Test 9: every entry is a dart, and the successors are one ring for each event that has darts, holding exactly its darts.
-// Each dart is looked at once and followed at most once.
-pub fn one_ring_each(chart: &[u8], n: usize) -> bool
+// The ring of each event is followed once, from one of its darts; then every dart must have its mark. The table first is scratch.
+pub fn one_ring_each(chart: &[u8], n: usize, first: &mut [u16]) -> bool
     requires { ⌜ Shape (now chart) n × EventsKnown (drawing (now chart)) ⌝ }
+    requires { ⌜ length (now first) ≡ drawing (now chart) .events ⌝ }
     ensures { λ r. ⌜ Says r (Rings (drawing (now (chart .entry)))) ⌝ }
 {
     if !all_keep(chart, n) {
         return false;
     }
+    first_darts(chart, n, first);
     let mut seen = [0u8; 6144];
-    let mut begun = [0u8; 1024];
-    look_at_all(chart, n, &mut seen[0..n], &mut begun)
+    rings_close(chart, n, first, &mut seen[0..n])
 }

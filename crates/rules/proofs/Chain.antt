@@ -3,7 +3,7 @@ use mathlib.Core.Path.{_≡_, refl, sym}
 use mathlib.Core.Bool.{Bool, true, false, not}
 use mathlib.Core.Logic.{_≢_, inl, inr}
 use mathlib.Core.List.{List, [], _∷_, _++_}
-use Prim.Native.Nat.{ℕ}
+use Prim.Native.Nat.{ℕ, _≤_, max}
 use native.Mathlib.Omega.{arith}
 use Rattle.finite.specs.Says.{Says}
 use Rattle.finite.proofs.Yes.{says-still, says-unless}
@@ -15,6 +15,18 @@ passes t s r b e p = says-still b e p
 
 pub fails : (t : Test) (s : List ℕ) (r : ℕ) (b : Bool) → not b ≡ true → Says b (Passes t s r) → ¬ Passes t s r
 fails t s r b e p = says-unless b e p
+
+-- ---- the numbers of tests
+
+-- the highest number that a list of tests gives
+abbrev pub highest : List Test → ℕ
+highest [] = 0
+highest (t ∷ ts) = max (number t) (highest ts)
+
+pub given-highest : (ts : List Test) (s : List ℕ) (r n : ℕ) → Given ts s r n → n ≤ highest ts
+given-highest [] s r n g = omega (arith, g)
+given-highest (t ∷ ts) s r n (inl g) = omega (arith, g .1)
+given-highest (t ∷ ts) s r n (inr g) = omega (arith, given-highest ts s r n (g .1))
 
 -- 0 is no test's number
 pub number-some : (t : Test) → number t ≢ 0

@@ -7,6 +7,7 @@ use Prim.Native.Nat.{ℕ}
 use native.Mathlib.Omega.{arith}
 use lib.Dec.{T, T-not, eqb}
 use lib.ListN.{length, drop}
+use Rattle.finite.proofs.Extra.{or-left, or-right}
 use Rattle.drawing.specs.Drawing.{Drawing}
 use Rattle.drawing.specs.Conditions.{Labelling}
 use Rattle.rules.specs.Words.{bytes}
@@ -47,14 +48,6 @@ judged-unique s r v u (inr p) (inr q) = p .3 ∙ ap J (deserves-unique (drawing 
 -- a labelling, a circle or a cut is written: the three exceptions
 abbrev pub free : ℕ → Bool
 free n = eqb n 0 || eqb n 13 || eqb n 14
-
-or-left : (a b : Bool) → T a → T (a || b)
-or-left true b t = tt
-or-left false b t = absurd t
-
-or-right : (a b : Bool) → T b → T (a || b)
-or-right true b t = tt
-or-right false b t = t
 
 pub entries-unique : (g : Drawing) (n : ℕ) (l m : List ℕ) → T (not (free n)) → Entries g n l → Entries g n m → l ≡ m
 entries-unique g n l m t =

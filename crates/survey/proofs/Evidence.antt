@@ -1,4 +1,4 @@
--- What the evidence of tests 12 and 13 shows. Assumes nothing.
+-- What the evidence of tests 12 and 13 shows, and the darts that were picked. Assumes nothing.
 use mathlib.Core.Path.{_≡_, refl, sym, ap, _∙_}
 use mathlib.Core.Bool.{Bool, true, false, cond}
 use mathlib.Core.List.{List, [], _∷_, _++_}
@@ -9,8 +9,14 @@ use lib.Dec.{ltb}
 use lib.ListN.{length, take, set, length-set}
 use lib.Seq.{take-suc-set}
 use Rattle.finite.specs.Sums.{below}
-use Rattle.drawing.specs.Drawing.{Drawing, changes, mixed, mixedEvents}
-use Rattle.drawing.specs.Conditions.{NoneMixed}
+use Rattle.drawing.specs.Drawing.{Drawing, darts, changes, mixed, mixedEvents}
+use Rattle.drawing.specs.Conditions.{NoneMixed, Joined}
+use Rattle.drawing.proofs.Joins.{joined-dart}
+use Rattle.rules.specs.Chart.{drawing}
+use Rattle.rules.proofs.Bytes.{darts-even}
+use Rattle.words.specs.Tables.{nth}
+use Rattle.chart.specs.Shape.{Shape}
+use Rattle.chart.specs.Held.{Picked, Firsts}
 
 below-none : (n : ℕ) (p : ℕ → Bool) → ((i : ℕ) → i < n → p i ≡ false) → below n p ≡ []
 unfolding below
@@ -31,3 +37,12 @@ some-mixed g m e none =
 
 pub first-set : (l : List ℕ) (m : ℕ) → 0 < length l → take 1 (set l 0 m) ≡ m ∷ []
 first-set l m h = take-suc-set l 0 m h
+
+-- where the arrows join all events each has a dart, and so one is picked
+pub firsts : (s : List ℕ) (n : ℕ) → Shape s n → Joined (drawing s) → (first : List ℕ) → Picked (drawing s) first → Firsts (drawing s) first
+firsts s n S joined first P = record { size = P .size; inside = inside; each = λ v l. P .own v l (inside v l) }
+  where
+    inside : (v : ℕ) → v < drawing s .events → nth first v < darts (drawing s)
+    inside v l =
+        let t = joined-dart (drawing s) (darts-even s) joined (S .events .0) v l in
+        rw (t .2) at (P .each (t .0) (t .1))

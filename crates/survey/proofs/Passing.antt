@@ -6,15 +6,12 @@ use Prim.Native.Nat.{ℕ, _≤_}
 use native.Mathlib.Omega.{arith}
 use Rattle.rules.specs.Chart.{drawing}
 use Rattle.rules.specs.Tests.{Test, order, parted, crossing, mixing, circle, Given}
-use Rattle.rules.proofs.Chain.{given-first}
+use Rattle.rules.proofs.Chain.{given-first, given-highest}
 use Rattle.survey.specs.Past.{ringTests, climbTests, surveyTests, Formed, Past, Clear}
 
 -- tests 9 to 11 give no number above 11
 pub ring-small : (s : List ℕ) (r : ℕ) → Given ringTests s 0 r → r ≤ 11
-ring-small s r (inl g) = omega (arith, g .1)
-ring-small s r (inr (p, inl g)) = omega (arith, g .1)
-ring-small s r (inr (p, inr (q, inl g))) = omega (arith, g .1)
-ring-small s r (inr (p, inr (q, inr (t, e)))) = omega (arith, e)
+ring-small s r g = given-highest ringTests s 0 r g
 
 pub zero-ring : (s : List ℕ) (r : ℕ) → r ≡ 0 → Given ringTests s 0 r → Given ringTests s 0 0
 zero-ring s r e g = subst (Given ringTests s 0) e g

@@ -22,7 +22,7 @@ fn ring_fault(
     requires { ⌜ Formed (now chart) n v × ((length (now here) ≡ n) × ((length (now first) ≡ v) × (length (now list) ≡ v))) ⌝ }
     ensures { λ r. ⌜ Ringed (now (chart .entry)) (now (here .exit)) r ⌝ }
 {
-    if !rings::one_ring_each(chart, n) {
+    if !rings::one_ring_each(chart, n, first) {
         return 9;
     }
     if !faces::joins_all(chart, n, v, first, list) {
@@ -40,7 +40,7 @@ fn climb_fault(chart: &[u8], n: usize, v: usize, first: &mut [u16], list: &mut [
     requires { ⌜ Formed (now chart) n v × (Past (now chart) × ((length (now first) ≡ v) × (length (now list) ≡ v))) ⌝ }
     ensures { λ r. ⌜ Climbed (now (chart .entry)) (now (first .exit)) (now (list .exit)) (r .fault) (r .count) ⌝ }
 {
-    climb::first_darts(chart, n, first);
+    rings::first_darts(chart, n, first);
     let m = climb::lowest_mixed(chart, n, first);
     if m < 65535 {
         words::put(list, 0, m);

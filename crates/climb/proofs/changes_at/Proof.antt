@@ -4,7 +4,7 @@ use native.Mathlib.Omega.{arith}
 use borrow.Author.Needs.{needs}
 use Rattle.drawing.specs.Drawing.{darts, after}
 use Rattle.rules.specs.Chart.{drawing}
-use Rattle.climb.proofs.Turns.{ahead}
+use Rattle.finite.proofs.Ahead.{ahead}
 use Rattle.climb.proofs.Changes.{Passed, start, here, few, beyond, step, nearer, done}
 use Rattle.climb.proofs.changes_at.Statement.{statement}
 use Rattle.climb.proofs.changes_at.Tie as tie
@@ -13,7 +13,7 @@ abbrev Inv-loop : tie.InvT-loop
 Inv-loop chart n d count₀ c₀ e₀ count c e = Passed (drawing chart) d c count × (e ≡ after (drawing chart) c)
 
 abbrev μ-loop : tie.MeasureT-loop
-μ-loop chart n d count₀ c₀ e₀ count c e = let g = drawing chart in ahead (darts g) (after g) d c
+μ-loop chart n d count₀ c₀ e₀ count c e = let g = drawing chart in ahead (darts g) (after g) d (after g c)
 
 next-of-requires : tie.Need-next-of-requires Inv-loop μ-loop
 next-of-requires c κs = search needs

@@ -1,10 +1,8 @@
 -- `climb::find_circle` meets its contract: it lends its tables, as long as there are events. Assumes nothing.
-use lib.Seq.{length-take-le}
-use lib.ListN.{length, take, replicate, length-replicate}
 use native.Mathlib.Omega.{arith}
-use Prim.Native.Nat.{ℕ, _-_, _≤_}
-use mathlib.Core.Path.{_≡_, _∙_}
+use mathlib.Core.Path.{_∙_}
 use borrow.Author.Needs.{needs}
+use Rattle.finite.proofs.Filled.{lent-length}
 use Rattle.climb.proofs.find_circle.Statement.{statement}
 use Rattle.climb.proofs.find_circle.Tie as tie
 
@@ -26,18 +24,13 @@ part-into-start c = search needs
 part-into-end : tie.Need-part-into-end
 part-into-end c = search needs
 
--- the part of a table that is lent
-lent : (v e : ℕ) → e ≤ 1024 → v ≡ e → length (take (v - 0) (replicate {A = ℕ} 1024 0)) ≡ e
-lent v e few q =
-    let z : v - 0 ≡ e = omega arith in
-    length-take-le (v - 0) (replicate {A = ℕ} 1024 0) (omega (arith, length-replicate {A = ℕ} 1024 0)) ∙ z
-
 circle-by-requires : tie.Need-circle-by-requires
 circle-by-requires c κs =
     let a = c .before .before .before .before .before .before .pre .0 in
     let few = a .0 .events .1 in
     let size = a .3 .size in
-    ((a .0, a .1, a .2, a .3), (lent _ _ few size, lent _ _ few size, c .before .before .before .before .before .before .pre .1))
+    let part = lent-length 1024 _ 0 (omega arith) ∙ size in
+    ((a .0, a .1, a .2, a .3), (part, part, c .before .before .before .before .before .before .pre .1))
 
 same-length : tie.Need-same-length
 same-length c = search needs

@@ -3,7 +3,7 @@ use native.Mathlib.Omega.{arith}
 use Rattle.drawing.proofs.Climb.{back}
 use Rattle.rules.specs.Chart.{drawing}
 use Rattle.words.specs.Tables.{nth}
-use Rattle.climb.proofs.Turns.{ahead}
+use Rattle.finite.proofs.Ahead.{ahead}
 use Rattle.climb.proofs.Backs.{turn-at, turn-next, turn-nearer, Lowered, lowered-start, best-small, lowered-step, lowered-done}
 use Rattle.climb.proofs.lowest.Statement.{statement}
 use Rattle.climb.proofs.lowest.Tie as tie
@@ -12,7 +12,7 @@ abbrev Inv-loop : tie.InvT-loop
 Inv-loop chart n into s best₀ c₀ best c = Lowered (drawing chart) into s c best
 
 abbrev μ-loop : tie.MeasureT-loop
-μ-loop chart n into s best₀ c₀ best c = let g = drawing chart in ahead (g .events) (back g (nth into)) s c
+μ-loop chart n into s best₀ c₀ best c = let g = drawing chart in ahead (g .events) (back g (nth into)) s (back g (nth into) c)
 
 loop-holds : tie.Need-loop-holds Inv-loop μ-loop
 loop-holds c = lowered-start _ _ _

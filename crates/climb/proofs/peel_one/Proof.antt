@@ -4,7 +4,7 @@ use borrow.Author.Needs.{needs}
 use Rattle.drawing.specs.Drawing.{darts, after}
 use Rattle.rules.specs.Chart.{drawing}
 use Rattle.rules.proofs.Bytes.{darts-even}
-use Rattle.climb.proofs.Turns.{ahead}
+use Rattle.finite.proofs.Ahead.{ahead}
 use Rattle.climb.proofs.Peels.{Around, waiting-few, place-inside, place-start, around-few, around-here, around-ready, around-step, around-nearer, around-done}
 use Rattle.climb.proofs.peel_one.Statement.{statement}
 use Rattle.climb.proofs.peel_one.Tie as tie
@@ -13,7 +13,7 @@ abbrev Inv-loop : tie.InvT-loop
 Inv-loop chart n first left₀ list₀ h t f count₀ c₀ left list count c = Around (drawing chart) left list h count f c
 
 abbrev μ-loop : tie.MeasureT-loop
-μ-loop chart n first left₀ list₀ h t f count₀ c₀ left list count c = let g = drawing chart in ahead (darts g) (after g) f c
+μ-loop chart n first left₀ list₀ h t f count₀ c₀ left list count c = let g = drawing chart in ahead (darts g) (after g) f (after g c)
 
 get-requires : tie.Need-get-requires Inv-loop μ-loop
 get-requires c κs = omega (arith, waiting-few _ _ _ (c .before .before .before .before .before .pre .1 .0 .waiting))

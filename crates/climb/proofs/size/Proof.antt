@@ -4,7 +4,7 @@ use Rattle.finite.proofs.Walk.{Walk, walk-start}
 use Rattle.drawing.proofs.Climb.{back}
 use Rattle.rules.specs.Chart.{drawing}
 use Rattle.words.specs.Tables.{nth}
-use Rattle.climb.proofs.Turns.{ahead}
+use Rattle.finite.proofs.Ahead.{ahead}
 use Rattle.climb.proofs.Backs.{turn-at, turn-steps, turn-nearer, turn-again, turn-done}
 use Rattle.climb.proofs.size.Statement.{statement}
 use Rattle.climb.proofs.size.Tie as tie
@@ -13,7 +13,7 @@ abbrev Inv-loop : tie.InvT-loop
 Inv-loop chart n into s k₀ c₀ k c = Walk (back (drawing chart) (nth into)) s k c
 
 abbrev μ-loop : tie.MeasureT-loop
-μ-loop chart n into s k₀ c₀ k c = let g = drawing chart in ahead (g .events) (back g (nth into)) s c
+μ-loop chart n into s k₀ c₀ k c = let g = drawing chart in ahead (g .events) (back g (nth into)) s (back g (nth into) c)
 
 loop-holds : tie.Need-loop-holds Inv-loop μ-loop
 loop-holds c = walk-start _ _

@@ -3,7 +3,7 @@ use native.Mathlib.Omega.{arith}
 use borrow.Author.Needs.{needs}
 use Rattle.drawing.specs.Drawing.{darts, walk}
 use Rattle.rules.specs.Chart.{drawing}
-use Rattle.faces.proofs.Ahead.{ahead}
+use Rattle.finite.proofs.Ahead.{ahead}
 use Rattle.faces.proofs.Painting.{Painting, start, small, far, far-in, step, falls, done}
 use Rattle.faces.proofs.paint.Statement.{statement}
 use Rattle.faces.proofs.paint.Tie as tie

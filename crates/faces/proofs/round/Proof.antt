@@ -3,7 +3,7 @@ use mathlib.Core.Path.{sym, _∙_}
 use native.Mathlib.Omega.{arith}
 use Rattle.drawing.specs.Drawing.{darts, after}
 use Rattle.rules.specs.Chart.{drawing}
-use Rattle.faces.proofs.Ahead.{ahead}
+use Rattle.finite.proofs.Ahead.{ahead}
 use Rattle.faces.proofs.Rounding.{Going, begin, small, ready, turn, falls, done}
 use Rattle.faces.proofs.round.Statement.{statement}
 use Rattle.faces.proofs.round.Tie as tie

@@ -1,6 +1,6 @@
 -- `places::find_places` meets its contract: the tables that it lends place nobody and list nothing. Assumes nothing.
 use native.Mathlib.Omega.{arith}
-use Rattle.places.proofs.Ends.{lent}
+use Rattle.finite.proofs.Filled.{lent, lent-length}
 use lib.ListN.{length, replicate, length-replicate}
 use Prim.Native.Nat.{ℕ}
 use mathlib.Core.Path.{_∙_, ap}
@@ -44,7 +44,7 @@ place-requires c κs =
       record {
         large = lent 1024 (length (args .list .now)) 65535 (omega (arith, pre .0 .events .1, pre .1 .poled .size)) ∙ ap (λ (k : ℕ). replicate k 65535) (pre .1 .poled .size);
         ranks = lent 6144 (args .n) 0 (pre .0 .few) ∙ ap (λ (k : ℕ). replicate k 0) (pre .0 .darts);
-        vias = ap length (lent 6144 (args .n) 0 (pre .0 .few)) ∙ length-replicate (args .n) 0 ∙ pre .0 .darts;
+        vias = lent-length 6144 (args .n) 0 (pre .0 .few) ∙ pre .0 .darts;
       },
       pre .2,
     )

@@ -1,9 +1,10 @@
--- `rings::one_ring_each` meets its contract: every successor keeps to its event, and the tables are lent without a mark. Assumes nothing.
-use Prim.Native.Nat.{_-_}
+-- `rings::one_ring_each` meets its contract: every successor keeps to its event, and the table is lent without a mark. Assumes nothing.
+use mathlib.Core.Path.{_∙_}
 use borrow.Author.Needs.{needs}
 use borrow.Author.Tests.{not-true, not-false}
 use Rattle.finite.proofs.Yes.{says-yes, says-no}
-use Rattle.rings.proofs.Laws.{zeros}
+use Rattle.finite.proofs.Filled.{lent, lent-length, blank}
+use Rattle.drawing.proofs.Ringed.{ringed-none}
 use Rattle.rings.proofs.one_ring_each.Statement.{statement}
 use Rattle.rings.proofs.one_ring_each.Tie as tie
 
@@ -15,8 +16,11 @@ returns c = λ R.
     let k = c .before .all-keep in
     says-no (not-true (k .result) (c .if1 .taken)) (k .ensures) (λ d l. (R .inside d l, R .stays d l))
 
-sub-look-at-all : tie.Need-sub-look-at-all
-sub-look-at-all c = search needs
+first-darts-requires : tie.Need-first-darts-requires
+first-darts-requires c κs = search needs
+
+sub-rings-close : tie.Need-sub-rings-close
+sub-rings-close c = search needs
 
 part-seen-start : tie.Need-part-seen-start
 part-seen-start c = search needs
@@ -24,14 +28,19 @@ part-seen-start c = search needs
 part-seen-end : tie.Need-part-seen-end
 part-seen-end c = search needs
 
-slice-aggregate-look-at-all : tie.Need-slice-aggregate-look-at-all
-slice-aggregate-look-at-all c = search needs
+rings-close-requires : tie.Need-rings-close-requires
+rings-close-requires c κs =
+    let s = c .before .before .before .before .before .before .before .before .before .before in
+    let p = s .pre in
+    let k = c .before .before .before .before .before .before .before .all-keep in
+    let n = s .args .n in
+    let part = lent 6144 n 0 (p .0 .0 .few) in (
+      (p .0 .0, says-yes (not-false (k .result) (c .before .before .before .before .before .before .if1 .left)) (k .ensures), p .0 .1),
+      (c .before .before .before .before .first-darts .ensures, ringed-none _ _ (lent-length 6144 n 0 (p .0 .0 .few) ∙ p .0 .0 .darts) (blank _ n part)),
+    )
 
-look-at-all-requires : tie.Need-look-at-all-requires
-look-at-all-requires c κs =
-    let s = c .before .before .before .before .before in
-    let k = c .before .before .before .all-keep in
-    (s .pre, (says-yes (not-false (k .result) (c .before .before .if1 .left)) (k .ensures), (search needs, (zeros (s .args .n - 0) 6144, zeros 1024 1024))))
+same-length : tie.Need-same-length
+same-length c = search needs
 
 returns-2 : tie.Need-returns-2
 returns-2 c = search needs
@@ -42,9 +51,10 @@ one-ring-each-spec =
     (tie.spec
     all-keep-requires
     returns
-    sub-look-at-all
+    first-darts-requires
+    sub-rings-close
     part-seen-start
     part-seen-end
-    slice-aggregate-look-at-all
-    look-at-all-requires
+    rings-close-requires
+    same-length
     returns-2)
