@@ -13,7 +13,7 @@ use Rattle.drawing.proofs.Faces.{corner-into}
 use Rattle.rules.specs.Chart.{drawing}
 use Rattle.rules.proofs.Bytes.{darts-even}
 use Rattle.words.specs.Tables.{nth}
-use Rattle.rooms.specs.Counts.{Corners, Switched}
+use Rattle.rooms.specs.Counts.{Corners, Corner, Switched}
 use Rattle.finite.proofs.Tally.{class-more, class-few}
 
 pub begin : (g : Drawing) (m : ℕ) (l : List ℕ) → m ≡ darts g → l ≡ replicate m 0 → Switched g 0 l
@@ -33,17 +33,19 @@ module _ {s : List ℕ} {n : ℕ} {here : List ℕ} (A : Corners s n here) (c : 
   dart : c < darts g
   dart = omega (arith, A .shape .darts)
 
-  pub corner-in : c < length here
-  corner-in = omega (arith, dart, A .faced .size)
+  pub corner : Corner s n here c
+  corner = record {
+    shape = A .shape;
+    inside = h;
+    size = A .faced .size ∙ sym (A .shape .darts);
+    face = A .faced .each c dart;
+  }
 
   pub next-small : after g c < 65536
   next-small = omega (arith, A .rings .inside c dart, A .shape .darts, A .shape .few)
 
   -- the code has the successor as t, the face as f, and what is added as x
-  module _ (t f x : ℕ) (goes : t ≡ after g c) (got : f ≡ nth here c) (adds : x ≡ (c % 2 + t % 2 + 1) % 2) where
-    face : f ≡ cornerFace g c
-    face = got ∙ A .faced .each c dart
-
+  module _ (t f x : ℕ) (goes : t ≡ after g c) (face : f ≡ cornerFace g c) (adds : x ≡ (c % 2 + t % 2 + 1) % 2) where
     inside : f < darts g
     inside = omega (arith, face, corner-into g (darts-even s) (A .rings) c dart)
 

@@ -1,5 +1,6 @@
 -- What the table of rooms holds on the way. Assumes nothing.
 --   Corners s n here           the chart s of n darts whose rings hold, and the face of each corner
+--   Corner s n here c          the corner c of the chart s of n darts, and its face in here
 --   Switched g c spare         each face has the number of its switch corners below c
 --   Named here f               f names a face: it is the lowest dart of its own
 --   Halved here f old new      the entries below f that name a face are half of what they were, less one; the others are as they were
@@ -19,6 +20,12 @@ pub record Corners (s : List ℕ) (n : ℕ) (here : List ℕ) : Type 0 where
   pub shape : Shape s n
   pub rings : Rings (drawing s)
   pub faced : Faced (drawing s) here
+
+pub record Corner (s : List ℕ) (n : ℕ) (here : List ℕ) (c : ℕ) : Type 0 where
+  pub shape : Shape s n
+  pub inside : c < n
+  pub size : length here ≡ n
+  pub face : nth here c ≡ cornerFace (drawing s) c
 
 pub record Switched (g : Drawing) (c : ℕ) (spare : List ℕ) : Type 0 where
   pub size : length spare ≡ darts g

@@ -2,22 +2,26 @@
 ghost use mathlib.Core.Path.{_≡_};
 ghost use Prim.Native.Nat.{ℕ, _+_, _-_, _*_, _/_, _%_, _<_, _≤_};
 ghost use lib.ListN.{length, set};
-ghost use Rattle.drawing.specs.Drawing.{darts, enters, leaves, twin as otherDart, face, room1};
+ghost use Rattle.drawing.specs.Drawing.{darts, enters, leaves, twin as otherDart, face, cornerFace, room1};
 ghost use Rattle.drawing.specs.Conditions.{EventsKnown, OuterKnown, Rings};
 ghost use Rattle.rules.specs.Chart.{drawing};
 ghost use Rattle.words.specs.Tables.{nth};
 ghost use Rattle.chart.specs.Shape.{Shape};
 ghost use Rattle.chart.specs.Held.{Faced, Roomed, Poled};
-ghost use Rattle.rooms.specs.Counts.{Corners, Switched, Named, Halved};
+ghost use Rattle.rooms.specs.Counts.{Corners, Corner, Switched, Named, Halved};
 ghost use Rattle.rooms.specs.Flags.{flags, Pole, Flagged, Decided};
 
 // ---- rooms
 
-// 1 if the corner between a dart c and its successor s is a switch, else 0. At a dead end the two are one dart: a switch.
+// 1 if the corner between a dart c and its successor s is a switch, else 0.
 fn switch_of(c: usize, s: usize) -> usize
     requires { ⌜ (c < 65536) × (s < 65536) ⌝ }
     ensures { λ r. ⌜ r ≡ (c % 2 + s % 2 + 1) % 2 ⌝ }
 {
+    // a dead end: the two are one dart
+    if c == s {
+        return 1;
+    }
     (c + s + 1) % 2
 }
 
@@ -30,13 +34,21 @@ fn add(t: &mut [u16], i: usize, x: usize)
     words::put(t, i, y + x);
 }
 
+// The face of the corner c. Switches are counted by corner: an event may have several corners in one face.
+fn face_at(chart: &[u8], n: usize, here: &[u16], c: usize) -> usize
+    requires { ⌜ Corner (now chart) n (now here) c ⌝ }
+    ensures { λ r. ⌜ r ≡ cornerFace (drawing (now (chart .entry))) c ⌝ }
+{
+    words::get(here, c)
+}
+
 // Counts the corner c for its face, if it is a switch.
 fn count_corner(chart: &[u8], n: usize, here: &[u16], spare: &mut [u16], c: usize)
     requires { ⌜ Corners (now chart) n (now here) × (c < n) × Switched (drawing (now chart)) c (now spare) ⌝ }
     ensures { λ _. ⌜ Switched (drawing (now (chart .entry))) (c + 1) (now (spare .exit)) ⌝ }
 {
     let s = chart::next_of(chart, n, c);
-    let f = words::get(here, c);
+    let f = face_at(chart, n, here, c);
     add(spare, f, switch_of(c, s));
 }
 
