@@ -10,7 +10,8 @@ fn main() {
         os::fail(b"listing: standard input");
         return;
     };
-    if !streams::write_listing(STDOUT_FILENO, &chart[0..n]) {
+    let mut text = [0u8; 36864];
+    if !streams::write_listing(STDOUT_FILENO, &chart[0..n], &mut text) {
         os::fail(b"listing: standard output");
     }
 }

@@ -7,10 +7,11 @@ ghost use lib.ListN.{length};
 
 // The name of chart k, and its listing.
 fn print_named(k: usize, chart: &[u8]) -> bool {
+    let mut text = [0u8; 36864];
     io::write_all(STDOUT_FILENO, b"C")
         && io::print_decimal(STDOUT_FILENO, k as u64)
         && io::write_all(STDOUT_FILENO, b"\n")
-        && streams::write_listing(STDOUT_FILENO, chart)
+        && streams::write_listing(STDOUT_FILENO, chart, &mut text)
 }
 
 // Prints chart k, which stands at `at`, and answers where it ends; or 0, when it has said what is wrong.

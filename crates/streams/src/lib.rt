@@ -2,6 +2,7 @@
 ghost use Prim.Native.Nat.{_≤_};
 ghost use lib.ListN.{length};
 ghost use Rattle.streams.specs.Counted.{Within, Ends};
+ghost use Rattle.streams.specs.Texts.{Shown, Written};
 
 // How many bytes came, or that a read failed.
 pub enum Input {
@@ -42,9 +43,11 @@ pub fn read_all(fd: i32, buf: &mut [u8]) -> Input
 
 // The end of the chart that stands at `at`: its length in 16 bits, then its bytes. 0 where the input ends before.
 pub fn chart_end(input: &[u8], at: usize) -> usize
-    requires { ⌜ at ≤ length (now input) ⌝ }
     ensures { λ r. ⌜ Ends (now (input .entry)) at r ⌝ }
 {
+    if input.len() < at {
+        return 0;
+    }
     let left = input.len() - at;
     if left < 2 {
         return 0;
@@ -56,9 +59,20 @@ pub fn chart_end(input: &[u8], at: usize) -> usize
     at + 2 + size
 }
 
-// Writes the listing of a chart, and answers as io::write_all does.
-pub fn write_listing(fd: i32, chart: &[u8]) -> bool {
-    let mut text = [0u8; 36864];
-    let k = printed::list_chart(chart, &mut text);
-    io::write_all(fd, &text[0..k])
+// Hands the listing of a chart to fd, whole, and answers as io::write_all does.
+fn write_text(fd: i32, chart: &[u8], text: &[u8]) -> bool
+    requires { ⌜ Shown (now chart) (now text) ⌝ }
+{
+    io::write_all(fd, text)
+}
+
+// Lists a chart in text, and hands the listing to fd. The answer is what the system gave; false where text has too little room.
+pub fn write_listing(fd: i32, chart: &[u8], text: &mut [u8]) -> bool
+    ensures { λ r. ⌜ Written (now (chart .entry)) (now (text .entry)) (now (text .exit)) r ⌝ }
+{
+    let k = printed::list_chart(chart, text);
+    if k == 0 {
+        return false;
+    }
+    write_text(fd, chart, &text[0..k])
 }

@@ -35,6 +35,9 @@ part-write-listing-start c = search needs
 part-write-listing-end : tie.Need-part-write-listing-end
 part-write-listing-end c = omega (arith, came-within _ _ _ _ (c .before .before .came .given .1) (c .before .before .before .before .before .read-all .ensures))
 
+slice-aggregate-write-listing : tie.Need-slice-aggregate-write-listing
+slice-aggregate-write-listing c = search needs
+
 write-listing-requires : tie.Need-write-listing-requires
 write-listing-requires c κs = search needs
 
@@ -64,6 +67,7 @@ main-spec =
     sub-write-listing
     part-write-listing-start
     part-write-listing-end
+    slice-aggregate-write-listing
     write-listing-requires
     slice-aggregate-fail-2
     fail-requires-2
