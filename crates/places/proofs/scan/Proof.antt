@@ -1,7 +1,8 @@
 -- `places::scan` meets its contract: a walk round the face visits each corner, up to the return. Assumes nothing.
 use native.Mathlib.Omega.{arith}
 use borrow.Author.Needs.{needs}
-use Rattle.placing.proofs.Rounds.{Scanning, scan-start, scan-few, scan-step, scan-done}
+use Rattle.placing.proofs.Boards.{turn-inj, turn-into}
+use Rattle.placing.proofs.Rounds.{Scanning, circuit-few, scan-start, scan-step, scan-done}
 use Rattle.rules.specs.Chart.{drawing}
 use mathlib.Core.Path.{sym, _∙_}
 use Prim.Native.Nat.{_-_}
@@ -17,7 +18,7 @@ abbrev μ-loop : tie.MeasureT-loop
 loop-holds : tie.Need-loop-holds Inv-loop μ-loop
 loop-holds c =
     let pre = c .before .before .before .before .before .pre in
-    scan-start (pre .0 .board) (omega (arith, pre .2, pre .0 .shape .darts)) (pre .1)
+    scan-start (c .before .before .before .before .before .args .large .now) (pre .0 .board) (omega (arith, pre .2, pre .0 .shape .darts)) (pre .1)
 
 visit-requires : tie.Need-visit-requires Inv-loop μ-loop
 visit-requires c κs =
@@ -39,31 +40,33 @@ same-length-2 c = search needs
 
 returns : tie.Need-returns Inv-loop μ-loop
 returns c =
+    let pre = c .before .before .before .before .before .before .before .before .before .before .before .before .before .before .before .pre in
     let loop = c .before .before .before .before .before .before .before .before .before .loop in
     let visit = c .before .before .before .before .before .before .visit in
     let turn = c .before .turn in
     let if1 = c .if1 in
-    scan-done (loop .inv) (visit .ensures) (sym (turn .ensures) ∙ if1 .taken)
+    scan-done _ (pre .0 .board) (loop .inv) (visit .ensures) (sym (turn .ensures) ∙ if1 .taken)
 
 add-k : tie.Need-add-k Inv-loop μ-loop
 add-k c =
     let loop = c .before .before .before .before .before .before .before .before .before .loop in
     let pre = c .before .before .before .before .before .before .before .before .before .before .before .before .before .before .before .pre in
-    omega (arith, scan-few (loop .inv), pre .0 .shape .few, pre .0 .shape .darts)
+    omega (arith, circuit-few (loop .inv) (turn-inj (pre .0 .board)) (turn-into (pre .0 .board)), pre .0 .shape .few, pre .0 .shape .darts)
 
 loop-less : tie.Need-loop-less Inv-loop μ-loop
 loop-less c =
     let loop = c .before .before .before .before .before .before .before .before .before .loop in
     let pre = c .before .before .before .before .before .before .before .before .before .before .before .before .before .before .before .pre in
-    omega (arith, scan-few (loop .inv), pre .0 .shape .darts)
+    omega (arith, circuit-few (loop .inv) (turn-inj (pre .0 .board)) (turn-into (pre .0 .board)), pre .0 .shape .darts)
 
 loop-again : tie.Need-loop-again Inv-loop μ-loop
 loop-again c =
+    let pre = c .before .before .before .before .before .before .before .before .before .before .before .before .before .before .before .pre in
     let turn = c .before .turn in
     let loop = c .before .before .before .before .before .before .before .before .before .loop in
     let visit = c .before .before .before .before .before .before .visit in
     let if1 = c .if1 in
-    rw (turn .ensures) (scan-step (loop .inv) (visit .ensures) (λ q. if1 .left (turn .ensures ∙ q)))
+    rw (turn .ensures) (scan-step _ (pre .0 .board) (loop .inv) (visit .ensures) (λ q. if1 .left (turn .ensures ∙ q)))
 
 pub scan-spec : {M : Type 1} → statement M
 scan-spec =

@@ -1,7 +1,8 @@
 -- `places::touch` meets its contract: a walk round the event lists the face of each corner, up to the return. Assumes nothing.
 use native.Mathlib.Omega.{arith}
 use borrow.Author.Needs.{needs}
-use Rattle.placing.proofs.Rounds.{Touching, touch-start, touch-few, touch-step, touch-done}
+use Rattle.drawing.proofs.Rounds.{after-inj}
+use Rattle.placing.proofs.Rounds.{Touching, circuit-few, touch-start, touch-step, touch-done}
 use Rattle.rules.specs.Chart.{drawing}
 use mathlib.Core.Path.{sym, _∙_}
 use Prim.Native.Nat.{_-_}
@@ -39,31 +40,33 @@ same-length-2 c = search needs
 
 returns : tie.Need-returns Inv-loop μ-loop
 returns c =
+    let pre = c .before .before .before .before .before .before .before .before .before .before .before .before .before .before .pre in
     let loop = c .before .before .before .before .before .before .before .before .before .loop in
     let list-face = c .before .before .before .before .before .before .list-face in
     let next-of = c .before .next-of in
     let if1 = c .if1 in
-    touch-done (loop .inv) (list-face .ensures) (sym (next-of .ensures) ∙ if1 .taken)
+    touch-done (pre .0 .board) (loop .inv) (list-face .ensures) (sym (next-of .ensures) ∙ if1 .taken)
 
 add-k : tie.Need-add-k Inv-loop μ-loop
 add-k c =
     let loop = c .before .before .before .before .before .before .before .before .before .loop in
     let pre = c .before .before .before .before .before .before .before .before .before .before .before .before .before .before .pre in
-    omega (arith, touch-few (loop .inv), pre .0 .shape .few, pre .0 .shape .darts)
+    omega (arith, circuit-few (loop .inv) (after-inj _ (pre .0 .board .rings)) (pre .0 .board .rings .inside), pre .0 .shape .few, pre .0 .shape .darts)
 
 loop-less : tie.Need-loop-less Inv-loop μ-loop
 loop-less c =
     let loop = c .before .before .before .before .before .before .before .before .before .loop in
     let pre = c .before .before .before .before .before .before .before .before .before .before .before .before .before .before .pre in
-    omega (arith, touch-few (loop .inv), pre .0 .shape .darts)
+    omega (arith, circuit-few (loop .inv) (after-inj _ (pre .0 .board .rings)) (pre .0 .board .rings .inside), pre .0 .shape .darts)
 
 loop-again : tie.Need-loop-again Inv-loop μ-loop
 loop-again c =
+    let pre = c .before .before .before .before .before .before .before .before .before .before .before .before .before .before .pre in
     let next-of = c .before .next-of in
     let loop = c .before .before .before .before .before .before .before .before .before .loop in
     let list-face = c .before .before .before .before .before .before .list-face in
     let if1 = c .if1 in
-    rw (next-of .ensures) (touch-step (loop .inv) (list-face .ensures) (λ q. if1 .left (next-of .ensures ∙ q)))
+    rw (next-of .ensures) (touch-step (pre .0 .board) (loop .inv) (list-face .ensures) (λ q. if1 .left (next-of .ensures ∙ q)))
 
 pub touch-spec : {M : Type 1} → statement M
 touch-spec =
