@@ -23,7 +23,7 @@ module _ (g : Drawing) (R : Rings g) (d : ℕ) (l : d < darts g) where
 
   whole : (w : ℕ → ℕ) (m : ℕ) → 0 < m → x m ≡ d → Inj m x → sum m (λ j. w (x j)) ≡ class (darts g) (event g) w (event g d)
   whole w m pos back once =
-      along-class m (darts g) x (event g) w (event g d) (λ j h. iter-into (darts g) (after g) (after-inj g R) (R .inside) j d l) once
+      along-class m (darts g) x (event g) w (event g d) (λ j h. iter-into (darts g) (after g) (R .inside) j d l) once
       (λ j h. reach-stays g R d (x j) l (j, refl))
       (λ e h q.
       let r = after-reach g R d e l h (sym q) in

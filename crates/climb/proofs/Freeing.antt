@@ -10,10 +10,6 @@ use Rattle.drawing.specs.Drawing.{Drawing, event, enters}
 use Rattle.words.specs.Tables.{nth}
 use Rattle.climb.specs.Peel.{Ready, Same, Freed, entered, fewer, last}
 
--- what is read from a table of 16-bit numbers
-pub read-few : (l : List ℕ) (i x : ℕ) → ((j : ℕ) → nth l j < 65536) → x ≡ nth l i → x < 65536
-read-few l i x h q = omega (arith, h i)
-
 module _ (g : Drawing) (c : ℕ) (left list : List ℕ) (t e k : ℕ) (ready : enters c ≡ 0 → Ready g c left list t)
     (at : e ≡ event g (c + 1 - c % 2)) (read : k ≡ nth left e) where
   -- an arrow that leaves

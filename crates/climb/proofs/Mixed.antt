@@ -1,16 +1,15 @@
 -- The lowest mixed event: the first that a search upwards meets. Assumes nothing.
-use mathlib.Core.Path.{_≡_, refl, sym, ap, ap₂, _∙_}
+use mathlib.Core.Path.{_≡_, sym, ap, ap₂, _∙_}
 use mathlib.Core.Bool.{Bool, true, false, cond}
 use mathlib.Core.List.{List, [], _∷_, _++_}
 use Prim.Native.Nat.{ℕ, zero, suc, _<_, _≤_}
 use native.Mathlib.Decide.{ℕ-discrete}
 use native.Mathlib.Omega.{arith}
-use borrow.Author.Tests.{ltb-true, ltb-false, lt-ltb, le-ltb}
-use lib.Dec.{ltb}
+use borrow.Author.Tests.{lt-ltb, le-ltb}
 use lib.ListN.{take}
 use Rattle.finite.specs.Sums.{below}
-use Rattle.finite.specs.Says.{Says}
 use Rattle.finite.proofs.Decide.{nil≢cons}
+use Rattle.finite.proofs.Lists.{below-none}
 use Rattle.drawing.specs.Drawing.{Drawing, event, changes, mixed, mixedEvents}
 use Rattle.words.specs.Tables.{nth}
 use Rattle.chart.specs.Held.{Firsts}
@@ -21,11 +20,6 @@ take-kept [] m x q = absurd (nil≢cons q)
 take-kept (y ∷ l) m x q = q
 
 -- of the numbers below n that pass the test, none or the first
-below-none : (n : ℕ) (p : ℕ → Bool) → ((i : ℕ) → i < n → p i ≡ false) → below n p ≡ []
-unfolding below
-below-none zero p h = refl
-below-none (suc n) p h = ap₂ _++_ (below-none n p (λ i l. h i (omega arith))) (ap (λ (b : Bool). cond b (n ∷ []) []) (h n (omega arith)))
-
 below-first : (n : ℕ) (p : ℕ → Bool) (v : ℕ) → v < n → p v ≡ true → ((i : ℕ) → i < v → p i ≡ false) → take 1 (below n p) ≡ v ∷ []
 unfolding below
 below-first zero p v l q h = absurd (omega arith)

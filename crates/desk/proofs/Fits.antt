@@ -2,26 +2,26 @@
 --   outcome-small   no number is above 14
 --   outcome-fits    so no outcome writes more than the report room
 use mathlib.Core.Path.{_≡_, refl, sym, ap, subst, _∙_}
-use mathlib.Core.Logic.{_≢_, inl, inr}
+use mathlib.Core.Logic.{_≢_}
 use mathlib.Core.Bool.{Bool, true, false, cond}
-use mathlib.Core.List.{List, [], _∷_, _++_}
-use Prim.Native.Nat.{ℕ, zero, suc, _+_, _*_, _/_, _≤_, _<_}
+use mathlib.Core.List.{List, _++_}
+use Prim.Native.Nat.{ℕ, _+_, _*_, _≤_}
 use native.Mathlib.Decide.{ℕ-discrete}
 use native.Mathlib.Omega.{arith}
 use borrow.Author.Tests.{ne-eqb}
 use lib.Dec.{T}
-use lib.ListN.{length, getD, take, drop, length-take}
+use lib.ListN.{length, take, length-take}
 use Rattle.drawing.specs.Drawing.{darts, mixedEvents}
 use Rattle.drawing.specs.Conditions.{Circle, Labelling, Cut}
 use Rattle.drawing.proofs.Few.{circle-few, cut-few}
 use Rattle.rules.specs.Words.{bytes}
 use Rattle.rules.specs.Chart.{drawing}
-use Rattle.rules.specs.Tests.{Test, tests, reportRoom, Given}
+use Rattle.rules.specs.Tests.{tests, reportRoom}
 use Rattle.rules.specs.Report.{writes, report, Entries, Outcome}
 use Rattle.rules.proofs.Bytes.{bytes-length}
 use Rattle.chart.specs.Shape.{Shape}
 use Rattle.report.specs.Headers.{header}
-use Rattle.report.proofs.Laws.{report-is, writes-none, writes-past}
+use Rattle.report.proofs.Laws.{report-is}
 use Rattle.lines.proofs.Tested.{given-shape}
 use Rattle.rules.proofs.Chain.{given-highest}
 

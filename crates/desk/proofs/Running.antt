@@ -1,21 +1,20 @@
 -- Runs of the tests one after the other. Assumes nothing.
-use mathlib.Core.Path.{_≡_, refl, sym, ap, subst, _∙_}
+use mathlib.Core.Path.{_≡_, refl, sym, ap}
 use mathlib.Core.Logic.{_≢_, inl, inr}
-use mathlib.Core.Bool.{Bool, true, false, cond}
 use mathlib.Core.List.{List, [], _∷_, _++_}
 use Prim.Native.Nat.{ℕ, _≤_, _<_}
 use native.Mathlib.Omega.{arith}
 use borrow.Author.Tests.{ne-eqb}
-use lib.ListN.{length, drop}
+use lib.ListN.{length}
 use Rattle.drawing.specs.Drawing.{Drawing}
 use Rattle.rules.specs.Chart.{drawing}
-use Rattle.rules.specs.Tests.{Test, short, tests, reportRoom, Given}
+use Rattle.rules.specs.Tests.{Test, short, reportRoom, Given}
 use Rattle.rules.specs.Report.{Entries, report, Outcome}
 use Rattle.rules.proofs.Chain.{given-append, given-left, given-highest}
 use Rattle.report.proofs.Laws.{writes-none}
 use Rattle.chart.specs.Form.{formTests}
 use Rattle.survey.specs.Past.{surveyTests}
-use Rattle.desk.specs.Run.{lastTests, drawnTests, Run}
+use Rattle.desk.specs.Run.{drawnTests, Run}
 
 -- the survey gives no number above 13
 pub survey-small : (s : List ℕ) (r : ℕ) → Given surveyTests s 0 r → r ≤ 13

@@ -13,7 +13,6 @@ use lib.IntN.{pos}
 use lib.Signed.{ltZ}
 use Rattle.finite.specs.Sums.{bit}
 use Rattle.finite.specs.Steps.{iter}
-use Rattle.finite.specs.Lists.{All, Distinct, Ascending}
 use Rattle.finite.proofs.Decide.{isYes, is-yes, map?, _×?_, _⊎?_, _→?_, ¬?, T?, eq?, le?, lt?, all?, any?, all-of?, distinct?, ascending?}
 use Rattle.drawing.specs.Drawing.{Drawing, darts, arrows, event, after, tail, head, twin, face, outerFace, plain, switch, corners, pole}
 use Rattle.drawing.specs.Conditions.{Rings, Reached, first, along, Joined, Runs, Round, Circle, label, larges, labels, Labelling, roomOf, Cut}

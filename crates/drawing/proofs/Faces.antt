@@ -1,10 +1,9 @@
 -- The face walk is injective, and a face is known by its lowest dart. Assumes nothing.
-use mathlib.Core.Path.{_≡_, refl, sym, ap, _∙_}
+use mathlib.Core.Path.{_≡_, sym, ap, _∙_}
 use mathlib.Core.Logic.{_↔_}
-use Prim.Native.Nat.{ℕ, zero, suc, _%_, _<_}
-use native.Mathlib.Omega.{arith}
-use Rattle.finite.specs.Steps.{iter, Into, Inj, Reach}
-use Rattle.finite.proofs.Orbit.{lowest-same, lowest-step, lowest-into, lowest-lowest, lowest-reached}
+use Prim.Native.Nat.{ℕ, _%_, _<_}
+use Rattle.finite.specs.Steps.{Into, Inj, Reach}
+use Rattle.finite.proofs.Orbit.{lowest-same, lowest-step, lowest-into, lowest-lowest}
 use Rattle.drawing.specs.Drawing.{Drawing, darts, event, after, twin, walk, face, cornerFace}
 use Rattle.drawing.specs.Conditions.{Rings}
 use Rattle.drawing.proofs.Twins.{twin-into, twin-inj, twin-twin}

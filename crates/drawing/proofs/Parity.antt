@@ -85,7 +85,7 @@ module _ (g : Drawing) (even : darts g % 2 ≡ 0) (R : Rings g) where
       round (suc k) =
           let h = round k in
           let x : ℕ = iter (after g) k d in
-          let xl : x < darts g = iter-into (darts g) (after g) (after-inj g R) (R .inside) k d l in
+          let xl : x < darts g = iter-into (darts g) (after g) (R .inside) k d l in
           let t : plain g x ≤ changes g (event g x) = class-term (darts g) (event g) (plain g) x xl in
           let u : changes g (event g x) ≡ 0 = ap (changes g) (h .0) ∙ z in
           (R .stays x xl ∙ h .0, (let w : enters x ≡ enters d = h .1 in omega arith))

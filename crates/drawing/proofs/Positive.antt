@@ -44,7 +44,7 @@ module _ (g : Drawing) (even : darts g % 2 ≡ 0) (R : Rings g) where
       x k = iter (walk g) k d
 
       xl : (k : ℕ) → x k < darts g
-      xl k = iter-into (darts g) (walk g) (walk-inj g even R) (walk-into g even R) k d l
+      xl k = iter-into (darts g) (walk g) (walk-into g even R) k d l
 
       way : (k : ℕ) → enters (x k) ≡ enters d
       way zero = refl

@@ -1,5 +1,4 @@
 -- Going once round each event, with no dart met twice and every dart met, is exactly `Rings`. Assumes nothing.
---   Keeps g d, Kept g         the successor of d is a dart of d's event; so for every dart
 --   Marked l i, unmarked l    the table l has a mark at i; how many entries of l have none
 --   Traced g was d c now      a walk from d has come to c; the table `now` has the marks of `was`, and one at each dart met, none met twice
 --   Round g seen v            the marked darts of the event v are one walk and back
@@ -7,7 +6,7 @@
 use mathlib.Core.Path.{_≡_, refl, sym, ap, _∙_}
 use mathlib.Core.Logic.{_≢_, _⊎_, inl, inr, ⊎-elim}
 use mathlib.Core.List.{List}
-use Prim.Native.Nat.{ℕ, zero, suc, _+_, _-_, _<_, _≤_}
+use Prim.Native.Nat.{ℕ, suc, _+_, _-_, _<_, _≤_}
 use native.Mathlib.Decide.{ℕ-discrete, decLe}
 use native.Mathlib.Omega.{arith}
 use lib.ListN.{length, getD, set, length-set}
@@ -19,13 +18,7 @@ use Rattle.finite.proofs.Perm.{inj-le}
 use Rattle.finite.proofs.Orbit.{cycle, iter-add, iter-inj}
 use Rattle.drawing.specs.Drawing.{Drawing, darts, event, after}
 use Rattle.drawing.specs.Conditions.{Rings}
-use Rattle.drawing.proofs.Rounds.{after-inj}
-
-abbrev pub Keeps : Drawing → ℕ → Type 0
-Keeps g d = (after g d < darts g) × (event g (after g d) ≡ event g d)
-
-abbrev pub Kept : Drawing → Type 0
-Kept g = (d : ℕ) → d < darts g → Keeps g d
+use Rattle.drawing.proofs.Rounds.{Kept, goes-inside, goes-there, after-inj}
 
 abbrev pub Marked : List ℕ → ℕ → Type 0
 Marked l i = 1 ≤ getD l i 0
@@ -145,16 +138,6 @@ trace-first g was now d c e T m new =
 -- ---- rounds, where every successor is a dart of the same event
 
 module _ (g : Drawing) (K : Kept g) where
-  pub goes-inside : (k d : ℕ) → d < darts g → iter (after g) k d < darts g
-  unfolding iter
-  goes-inside zero d l = l
-  goes-inside (suc k) d l = K (iter (after g) k d) (goes-inside k d l) .0
-
-  pub goes-there : (k d : ℕ) → d < darts g → event g (iter (after g) k d) ≡ event g d
-  unfolding iter
-  goes-there zero d l = refl
-  goes-there (suc k) d l = K (iter (after g) k d) (goes-inside k d l) .1 ∙ goes-there k d l
-
   module _ (seen : List ℕ) (v : ℕ) (I : Ringed g seen v) where
     -- a dart without a mark at an event that has its round: the round misses it
     pub refuse-missed : (d : ℕ) → d < darts g → event g d < v → getD seen d 0 < 1 → Rings g → ⊥
@@ -180,7 +163,7 @@ module _ (g : Drawing) (K : Kept g) where
       module _ (now : List ℕ) (c : ℕ) (T : Traced g seen d c now) (m : Marked now c) where
         -- the walk met c
         again : (j : ℕ) × (j < T .steps) × (iter (after g) j d ≡ c)
-        again = ⊎-elim (λ w. absurd (bare c (ap (event g) (sym (T .here)) ∙ goes-there (T .steps) d l ∙ there) w)) (λ t. t) (T .only c m)
+        again = ⊎-elim (λ w. absurd (bare c (ap (event g) (sym (T .here)) ∙ goes-there g K (T .steps) d l ∙ there) w)) (λ t. t) (T .only c m)
 
         some : 0 < T .steps
         some = let h : again .0 < T .steps = again .1 in omega arith
@@ -193,7 +176,7 @@ module _ (g : Drawing) (K : Kept g) where
             let h : j < T .steps = again .1 in
             let split : j + (T .steps - j) ≡ T .steps = omega arith in
             let q : d ≡ iter (after g) (T .steps - j) d =
-            iter-inj (darts g) (after g) (after-inj g R) (R .inside) j d (iter (after g) (T .steps - j) d) l (goes-inside (T .steps - j) d l)
+            iter-inj (darts g) (after g) (after-inj g R) (R .inside) j d (iter (after g) (T .steps - j) d) l (goes-inside g K (T .steps - j) d l)
             (again .2 ∙ sym (T .here) ∙ ap (λ (x : ℕ). iter (after g) x d) (sym split) ∙ iter-add (after g) j (T .steps - j) d) in
             elim (ℕ-discrete j 0) [
               | yes z ↦ apart (sym (again .2) ∙ ap (λ (x : ℕ). iter (after g) x d) z)
@@ -211,7 +194,7 @@ module _ (g : Drawing) (K : Kept g) where
               there = there ∙ sym s;
               steps = T .steps;
               some = some;
-              few = inj-le (T .steps) (darts g) (λ j. iter (after g) j d) (T .once) (λ j h. goes-inside j d l);
+              few = inj-le (T .steps) (darts g) (λ j. iter (after g) j d) (T .once) (λ j h. goes-inside g K j d l);
               back = T .here ∙ q;
               met = T .met;
               only = λ x y r. ⊎-elim (λ o. absurd (bare x (r ∙ s) o)) (λ t. t) (T .only x y);
@@ -234,7 +217,7 @@ module _ (g : Drawing) (K : Kept g) where
         }
           where
             on : (e : ℕ) → (j : ℕ) × (j < T .steps) × (iter (after g) j d ≡ e) → event g e ≡ v
-            on e t = ap (event g) (sym (t .2)) ∙ goes-there (t .0) d l ∙ there
+            on e t = ap (event g) (sym (t .2)) ∙ goes-there g K (t .0) d l ∙ there
 
   -- every dart has its mark
   pub ringed-all : (seen : List ℕ) (v : ℕ) → Ringed g seen v → ((d : ℕ) → d < darts g → Marked seen d) → Rings g

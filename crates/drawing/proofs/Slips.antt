@@ -4,9 +4,9 @@
 --   ringed     an event that an arrow leaves, one enters and one leaves, in this order round it: two changes
 --   doubly     C8 with an arrow 1→4 in its inner face, of room 1 then: the events 3 and 4 touch that face and no other
 use mathlib.Core.Path.{_≡_, refl}
-use mathlib.Core.List.{List, [], _∷_}
+use mathlib.Core.List.{[], _∷_}
 use Prim.Native.Nat.{ℕ, _≤_}
-use lib.IntN.{ℤ, pos}
+use lib.IntN.{pos}
 use Rattle.finite.specs.Sums.{sum, δ, class, below}
 use Rattle.finite.specs.Steps.{iter, least, lowest}
 use Rattle.finite.specs.Lists.{sumℤ}

@@ -1,6 +1,6 @@
 -- Twins: each dart has one, of the same arrow and the other direction. Assumes nothing.
 use mathlib.Core.Path.{_≡_, sym, ap, _∙_}
-use Prim.Native.Nat.{ℕ, _+_, _*_, _/_, _%_, _<_}
+use Prim.Native.Nat.{ℕ, _+_, _*_, _/_, _%_}
 use native.Mathlib.Omega.{arith}
 use Rattle.finite.specs.Steps.{Into, Inj}
 use Rattle.drawing.specs.Drawing.{twin, enters, leaves}

@@ -1,24 +1,24 @@
 -- The answers are small enough to be packed. Assumes nothing.
-use mathlib.Core.Path.{_≡_, refl, sym, ap, subst, _∙_}
-use mathlib.Core.Logic.{_⊎_, inl, inr}
+use mathlib.Core.Path.{_≡_, refl, sym, ap, _∙_}
+use mathlib.Core.Logic.{inl, inr}
 use mathlib.Core.Bool.{Bool, true, false, cond}
 use mathlib.Core.List.{List}
-use Prim.Native.Nat.{ℕ, _+_, _*_, _≤_, _<_}
+use Prim.Native.Nat.{ℕ, _≤_, _<_}
 use native.Mathlib.Decide.{decLt}
 use native.Mathlib.Omega.{arith}
 use lib.Dec.{eqb}
-use lib.ListN.{getD, length}
+use lib.ListN.{getD}
 use Rattle.drawing.specs.Drawing.{Drawing}
 use Rattle.rules.specs.Words.{u16}
 use Rattle.drawing.specs.Conditions.{Labelling, Cut}
 use Rattle.rules.specs.Chart.{drawing}
-use Rattle.rules.specs.Tests.{faults, Given}
-use Rattle.rules.specs.Report.{good, bad, form, wellFormed, resultIn, writes, body, entries}
-use Rattle.rules.specs.Judge.{Verdict, chart, J, fits, Either, Deserves, Judged}
+use Rattle.rules.specs.Tests.{faults}
+use Rattle.rules.specs.Report.{good, bad, form, wellFormed, resultIn, body, entries}
+use Rattle.rules.specs.Judge.{Verdict, fits, Either, Deserves, Judged}
 use Rattle.report.proofs.Laws.{writes-past}
 use Rattle.report.proofs.Good.{form-parts, good-writes}
 use Rattle.rules.proofs.Chain.{given-highest}
-use Rattle.export.specs.Packed.{packForm, packBody, packVerdict}
+use Rattle.export.specs.Packed.{packBody, packVerdict}
 
 pub good-small : (s : List ℕ) (r c : ℕ) → good r c ≡ form s → ((i : ℕ) → getD s i 0 < 256) → (r ≤ 14) × (c < 65536)
 unfolding u16

@@ -57,7 +57,7 @@ module _ {s : List ℕ} {n d : ℕ} {old : List ℕ} (A : Paintable s n d old) w
     reached = (P .steps, sym (P .way .here))
 
     inside : e < darts g
-    inside = rw (P .way .here) (iter-into (darts g) (walk g) (walk-inj g even R) (walk-into g even R) (P .steps) d dart)
+    inside = rw (P .way .here) (iter-into (darts g) (walk g) (walk-into g even R) (P .steps) d dart)
 
     pub small : e < n
     small = omega (arith, inside, A .shape .darts)

@@ -68,10 +68,7 @@ empty g m q k e p r = record {
     zero-at : (v : ℕ) → v < g .events → nth m v ≡ 0
     zero-at v l = ap (λ (z : List ℕ). nth z v) e ∙ getD-replicate {A = ℕ} k v 0 0 (omega arith)
 
--- ---- marks are 16-bit numbers, and so are those that stand in their place
-
-pub mark-few : (m : List ℕ) (v y : ℕ) → ((u : ℕ) → nth m u < 65536) → y ≡ nth m v → y < 65536
-mark-few m v y h q = omega (arith, h v)
+-- ---- a mark is a 16-bit number, and so is what stands in its place
 
 pub still-few : {y r : ℕ} → y < 65536 → (y < 1 → r ≡ 1) × (1 ≤ y → r ≡ 0) × (r < 2) → y + r < 65536
 still-few {y} {r} h w = elim (decLe 1 y) [ yes k ↦ omega (arith, w .1 k) | no k ↦ omega (arith, w .0 (omega arith)) ]

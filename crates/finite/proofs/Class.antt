@@ -1,17 +1,17 @@
 -- Sums over classes: a weight summed over each class of a map k, and then over the classes. Assumes nothing.
-use mathlib.Core.Path.{_≡_, refl, sym, ap, ap₂, _∙_}
+use mathlib.Core.Path.{_≡_, sym, ap, _∙_}
 use mathlib.Core.Logic.{_≢_, _⊎_, inl, inr}
-use Prim.Native.Nat.{ℕ, zero, suc, _+_, _*_, _<_, _≤_}
+use Prim.Native.Nat.{ℕ, _+_, _*_, _<_, _≤_}
 use mathlib.Core.List.{List}
 use lib.ListN.{length, getD, set}
 use lib.Seq.{getD-set-same, getD-set-other}
-use native.Mathlib.Nat.{mul-add, mul-one, zero-mul, one-mul, mul-zero, mul-comm, eq-zero-or-pos}
+use native.Mathlib.Nat.{mul-add, zero-mul, one-mul, mul-zero, eq-zero-or-pos}
 use native.Mathlib.Decide.{ℕ-discrete, decLt}
 use native.Mathlib.Omega.{arith}
 use Rattle.finite.specs.Sums.{sum, δ, class}
 use Rattle.finite.specs.Steps.{Into}
 use Rattle.finite.proofs.Decide.{any?, _×?_}
-use Rattle.finite.proofs.Sum.{sum-mono, sum-add, sum-δ, sum-change, sum-tight, sum-cong, sum-mul, sum-swap, sum-pick, sum-term, sum-zero, δ-same, δ-other, δ-eq, δ-le}
+use Rattle.finite.proofs.Sum.{sum-mono, sum-add, sum-δ, sum-change, sum-tight, sum-cong, sum-mul, sum-swap, sum-pick, sum-term, sum-zero, δ-same, δ-other}
 
 pub class-total : (n m : ℕ) (k w : ℕ → ℕ) → Into n m k → sum m (class n k w) ≡ sum n w
 unfolding class

@@ -1,7 +1,6 @@
 -- Along an injective map that keeps a weight, the colour changes an even number of times. Assumes nothing.
-use mathlib.Core.Path.{_≡_, refl, sym, ap, ap₂, _∙_}
-use Prim.Native.Nat.{ℕ, zero, suc, _+_, _*_, _<_, _≤_, _%_, _/_}
-use native.Mathlib.Nat.{mul-add}
+use mathlib.Core.Path.{_≡_, sym, ap, _∙_}
+use Prim.Native.Nat.{ℕ, _+_, _*_, _<_, _%_, _/_}
 use native.Mathlib.Omega.{arith}
 use Rattle.finite.specs.Sums.{sum}
 use Rattle.finite.specs.Steps.{Into, Inj}

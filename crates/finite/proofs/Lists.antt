@@ -1,5 +1,6 @@
 -- Lists of numbers: every entry, ascending, none twice. Assumes nothing.
 --   all-at, all-of                a statement of every entry, and of the entry at each place
+--   below-none                    the list of the numbers that pass a test, where none does
 --   all-map, all-append, all-take, all-below     statements of every entry of related lists
 --   ascending-at, ascending-of    a list ascends exactly if a later entry is always larger
 --   distinct-few                  a list of numbers below m, none twice, has at most m entries
@@ -49,6 +50,12 @@ pub all-take : (P : ℕ → Type 0) (k : ℕ) (l : List ℕ) → All P l → All
 all-take P zero l a = tt
 all-take P (suc k) [] a = tt
 all-take P (suc k) (x ∷ l) a = (a .0, all-take P k l (a .1))
+
+-- where no number passes the test
+pub below-none : (n : ℕ) (p : ℕ → Bool) → ((i : ℕ) → i < n → p i ≡ false) → below n p ≡ []
+unfolding below
+below-none zero p h = refl
+below-none (suc n) p h = rw (h n (omega arith), below-none n p (λ i l. h i (omega arith)))
 
 pub all-below : (n : ℕ) (p : ℕ → Bool) → All (λ x. x < n) (below n p)
 unfolding below

@@ -1,15 +1,13 @@
 -- Orbits of an injective map of the numbers below n into themselves. Assumes nothing.
-use mathlib.Core.Path.{_≡_, refl, sym, ap, ap₂, _∙_}
+use mathlib.Core.Path.{_≡_, refl, sym, ap, _∙_}
 use mathlib.Core.Logic.{_≢_, _↔_, _⊎_, inl, inr}
-use Prim.Native.Nat.{ℕ, zero, suc, _+_, _*_, _-_, _<_, _≤_, min}
-use native.Mathlib.Nat.{add-suc, add-comm, suc-add, zero-add, min-le-left, min-le-right, le-antisymm}
+use Prim.Native.Nat.{ℕ, zero, suc, _+_, _-_, _<_, _≤_}
+use native.Mathlib.Nat.{suc-add, zero-add, le-antisymm}
 use native.Mathlib.Decide.{ℕ-discrete, decLe, decLt}
 use native.Mathlib.Omega.{arith}
-use Rattle.finite.specs.Sums.{sum, δ}
 use Rattle.finite.specs.Steps.{iter, Reach, least, lowest, Inj, Into}
 use Rattle.finite.proofs.Decide.{_×?_}
 use Rattle.finite.proofs.Perm.{pigeon}
-use Rattle.finite.proofs.Sum.{δ-eq, δ-le, sum-mono, sum-const}
 
 pub iter-add : (p : ℕ → ℕ) (j k d : ℕ) → iter p (j + k) d ≡ iter p j (iter p k d)
 unfolding iter
@@ -82,28 +80,28 @@ first (suc n) P dec = go (first n P dec) (dec n)
     go (inr none) (yes q) = inl (n, omega arith, q, none)
     go (inr none) (no q) = inr (λ i l p. elim (ℕ-discrete i n) [ yes e ↦ q (rw e at p) | no d ↦ none i (omega arith) p ])
 
-module _ (n : ℕ) (p : ℕ → ℕ) (inj : Inj n p) (into : Into n n p) where
-  pub iter-into : (k d : ℕ) → d < n → iter p k d < n
-  unfolding iter
-  iter-into zero d l = l
-  iter-into (suc k) d l = into (iter p k d) (iter-into k d l)
+pub iter-into : (n : ℕ) (p : ℕ → ℕ) → Into n n p → (k d : ℕ) → d < n → iter p k d < n
+unfolding iter
+iter-into n p into zero d l = l
+iter-into n p into (suc k) d l = into (iter p k d) (iter-into n p into k d l)
 
+module _ (n : ℕ) (p : ℕ → ℕ) (inj : Inj n p) (into : Into n n p) where
   pub iter-inj : (k d e : ℕ) → d < n → e < n → iter p k d ≡ iter p k e → d ≡ e
   unfolding iter
   iter-inj zero d e l m q = q
-  iter-inj (suc k) d e l m q = iter-inj k d e l m (inj (iter p k d) (iter p k e) (iter-into k d l) (iter-into k e m) q)
+  iter-inj (suc k) d e l m q = iter-inj k d e l m (inj (iter p k d) (iter p k e) (iter-into n p into k d l) (iter-into n p into k e m) q)
 
   -- every number returns to itself, within n steps
   pub returns : (d : ℕ) → d < n → (k : ℕ) × (0 < k) × (k ≤ n) × (iter p k d ≡ d)
   returns d l =
-      let t = pigeon (suc n) n (λ k. iter p k d) (λ k h. iter-into k d l) (omega arith) in
+      let t = pigeon (suc n) n (λ k. iter p k d) (λ k h. iter-into n p into k d l) (omega arith) in
       let j : ℕ = t .0 in
       let i : ℕ = t .2 .0 in
       let jn : j < suc n = t .1 in
       let ij : i < j = t .2 .1 in
       let split : i + (j - i) ≡ j = omega arith in
       let q : iter p i d ≡ iter p i (iter p (j - i) d) = t .2 .2 ∙ ap (λ (x : ℕ). iter p x d) (sym split) ∙ iter-add p i (j - i) d in
-      (j - i, omega arith, omega arith, iter-inj i (iter p (j - i) d) d (iter-into (j - i) d l) l (sym q))
+      (j - i, omega arith, omega arith, iter-inj i (iter p (j - i) d) d (iter-into n p into (j - i) d l) l (sym q))
 
   -- so what is reached at all is reached within n steps
   pub soon : (d : ℕ) → d < n → (k : ℕ) → (j : ℕ) × (j ≤ n) × (iter p k d ≡ iter p j d)
@@ -127,10 +125,10 @@ module _ (n : ℕ) (p : ℕ → ℕ) (inj : Inj n p) (into : Into n n p) where
       back : (k e : ℕ) → iter p k d ≡ e → Reach p e d
       back zero e q = (0, sym q)
       back (suc k) e q =
-          reach-trans p e (iter p k d) d (rw q at (one (iter p k d) (iter-into k d l))) (back k (iter p k d) refl)
+          reach-trans p e (iter p k d) d (rw q at (one (iter p k d) (iter-into n p into k d l))) (back k (iter p k d) refl)
 
   pub reach-into : (d e : ℕ) → d < n → Reach p d e → e < n
-  reach-into d e l s = rw (s .1) at (iter-into (s .0) d l)
+  reach-into d e l s = rw (s .1) at (iter-into n p into (s .0) d l)
 
   pub lowest-le : (d : ℕ) → d < n → (k : ℕ) → lowest n p d ≤ iter p k d
   unfolding lowest

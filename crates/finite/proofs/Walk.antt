@@ -1,7 +1,7 @@
 -- A walk along an injective map, up to its return. Assumes nothing.
 use mathlib.Core.Path.{_≡_, refl, sym, ap, _∙_}
 use mathlib.Core.Logic.{_≢_}
-use Prim.Native.Nat.{ℕ, zero, suc, _+_, _*_, _-_, _<_, _≤_}
+use Prim.Native.Nat.{ℕ, suc, _+_, _<_, _≤_}
 use native.Mathlib.Decide.{ℕ-discrete, decLt}
 use native.Mathlib.Omega.{arith}
 use native.Mathlib.Numerals.{add-one}
@@ -35,7 +35,7 @@ walk-few n p d k c inj into l W =
     elim (decLt k (t .0)) [ yes q ↦ omega arith | no q ↦ absurd (W .fresh (t .0) a (omega arith) (t .3)) ]
 
 pub walk-into : (n : ℕ) (p : ℕ → ℕ) (d k c : ℕ) → Inj n p → Into n n p → d < n → Walk p d k c → c < n
-walk-into n p d k c inj into l W = rw (W .here) (iter-into n p inj into k d l)
+walk-into n p d k c inj into l W = rw (W .here) (iter-into n p into k d l)
 
 -- whatever is reached was met
 pub walk-all : (p : ℕ → ℕ) (d k c : ℕ) → Walk p d k c → p c ≡ d → (e : ℕ) → Reach p d e → (j : ℕ) × (j ≤ k) × (iter p j d ≡ e)

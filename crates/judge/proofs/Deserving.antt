@@ -1,17 +1,16 @@
 -- What a report deserves, from what its reader answers and what its evidence shows. Assumes nothing.
-use mathlib.Core.Path.{_≡_, refl, sym, ap, subst, _∙_}
+use mathlib.Core.Path.{_≡_, refl, sym, _∙_}
 use mathlib.Core.Logic.{_≢_, inl, inr}
-use mathlib.Core.Bool.{Bool, true, false, cond, _&&_, _||_}
+use mathlib.Core.Bool.{Bool, true, false, cond}
 use mathlib.Core.List.{List}
-use Prim.Native.Nat.{ℕ, _*_}
+use Prim.Native.Nat.{ℕ}
 use native.Mathlib.Omega.{arith}
 use borrow.Author.Tests.{eq-eqb, ne-eqb}
-use lib.Dec.{eqb}
 use Rattle.finite.specs.Says.{Says}
 use Rattle.drawing.specs.Drawing.{Drawing, darts}
 use Rattle.drawing.specs.Conditions.{Labelling, Cut}
 use Rattle.rules.specs.Words.{words}
-use Rattle.rules.specs.Report.{Form, good, bad, wellFormed, form, body, entries, resultIn, countIn}
+use Rattle.rules.specs.Report.{good, bad, wellFormed, form, body, entries, resultIn, countIn}
 use Rattle.rules.specs.Judge.{fits, Either, Deserves}
 use Rattle.report.proofs.Good.{form-parts, good-labels, good-list}
 

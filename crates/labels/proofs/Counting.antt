@@ -1,15 +1,14 @@
 -- Counting the large corners, and what the counts say of a labelling. Assumes nothing.
-use mathlib.Core.Path.{_≡_, refl, sym, ap, subst, _∙_}
+use mathlib.Core.Path.{_≡_, refl, ap, _∙_}
 use mathlib.Core.List.{List}
-use Prim.Native.Nat.{ℕ, zero, suc, _+_, _*_, _%_, _<_, _≤_}
+use Prim.Native.Nat.{ℕ, _+_, _<_, _≤_}
 use native.Mathlib.Omega.{arith}
 use lib.ListN.{length, set, length-set, replicate, length-replicate, getD-replicate}
 use Rattle.finite.specs.Sums.{sum, δ, class}
 use Rattle.finite.proofs.Sum.{δ-le}
 use Rattle.finite.proofs.Tally.{tally-more, class-few}
 use Rattle.drawing.specs.Drawing.{Drawing, darts, event, cornerFace}
-use Rattle.drawing.specs.Conditions.{EventsKnown, Rings, label}
-use Rattle.drawing.proofs.Faces.{corner-into}
+use Rattle.drawing.specs.Conditions.{EventsKnown, label}
 use Rattle.words.specs.Tables.{nth}
 use Rattle.labels.specs.Checks.{large, Counted}
 

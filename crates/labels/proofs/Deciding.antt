@@ -1,14 +1,14 @@
 -- The counts decide whether the labels are a labelling. Assumes nothing.
-use mathlib.Core.Path.{_≡_, refl, sym, ap, subst, _∙_}
-use mathlib.Core.Logic.{_⊎_, inl, inr, ⊎-elim}
+use mathlib.Core.Path.{_≡_, sym, _∙_}
+use mathlib.Core.Logic.{_⊎_, ⊎-elim}
 use mathlib.Core.List.{List}
 use Prim.Native.Nat.{ℕ, _+_, _*_, _%_, _<_, _≤_}
 use native.Mathlib.Decide.{ℕ-discrete}
 use native.Mathlib.Omega.{arith}
 use lib.ListN.{length}
-use Rattle.finite.specs.Sums.{bit, δ, class}
-use Rattle.finite.proofs.Sum.{δ-le, δ-eq, δ-other}
-use Rattle.drawing.specs.Drawing.{Drawing, darts, event, face, cornerFace, plain, switch}
+use Rattle.finite.specs.Sums.{class}
+use Rattle.finite.proofs.Sum.{δ-eq, δ-other}
+use Rattle.drawing.specs.Drawing.{Drawing, darts, face, cornerFace, plain, switch}
 use Rattle.drawing.specs.Conditions.{OuterKnown, Rings, label, larges, Labelling}
 use Rattle.drawing.proofs.Labels.{labelled, large-room}
 use Rattle.drawing.proofs.Total.{no-corner}

@@ -45,6 +45,10 @@ length-one n l = ap length (decimal-one n l)
 pub length-more : (n : ℕ) → 10 ≤ n → n < 65536 → length (decimal n) ≡ length (decimal (n / 10)) + 1
 length-more n m l = ap length (decimal-more n m l) ∙ length-append (decimal (n / 10)) ((48 + n % 10) ∷ [])
 
+-- a line of four parts
+pub length-four : (a b c d : List ℕ) → length (a ++ b ++ c ++ d) ≡ length a + length b + length c + length d
+length-four a b c d = omega (arith, length-append (a ++ b ++ c) d, length-append (a ++ b) c, length-append a b)
+
 -- ten times the numbers have one digit more
 longer : (k b : ℕ) → b ≤ 1000 → 1 ≤ k → ((n : ℕ) → n < b → length (decimal n) ≤ k) → (n : ℕ) → n < 10 * b → length (decimal n) ≤ suc k
 longer k b few some h n l =

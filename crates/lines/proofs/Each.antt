@@ -17,7 +17,7 @@ use Rattle.rules.specs.Listing.{ascii, decimal, each}
 use Rattle.words.specs.Tables.{nth}
 use Rattle.lines.specs.Text.{line, pair}
 use Rattle.lines.specs.Follow.{entry, pairs, Table}
-use Rattle.lines.proofs.Decimal.{decimal-short, named-short}
+use Rattle.lines.proofs.Decimal.{length-four, decimal-short, named-short}
 
 each-append : (f : ℕ → List ℕ) (l m : List ℕ) → each f (l ++ m) ≡ each f l ++ each f m
 unfolding each
@@ -95,14 +95,7 @@ pair-short : (v c : ℕ) → v < 10000 → c < 10000 → length (pair v c) ≤ 2
 unfolding ascii
 pair-short v c l k =
     let w : List ℕ = ascii "event " ++ decimal v in
-    omega (
-      arith,
-      length-append (w ++ ascii " corner " ++ decimal c) (ascii "\n"),
-      length-append (w ++ ascii " corner ") (decimal c),
-      length-append w (ascii " corner "),
-      named-short (ascii "event ") v l,
-      decimal-short c k,
-    )
+    omega (arith, length-four w (ascii " corner ") (decimal c) (ascii "\n"), named-short (ascii "event ") v l, decimal-short c k)
 
 pub entry-short : (t : List ℕ) (v : ℕ) → Table t → v < length t → length (entry t v) ≤ 23
 entry-short t v T l =

@@ -6,7 +6,7 @@ use Prim.Native.Nat.{ℕ, _+_, _≤_, _<_}
 use native.Mathlib.Omega.{arith}
 use borrow.Author.Tests.{ne-eqb}
 use lib.Dec.{T}
-use lib.ListN.{length, length-append}
+use lib.ListN.{length}
 use Rattle.finite.specs.Lists.{All}
 use Rattle.drawing.specs.Drawing.{Drawing, darts}
 use Rattle.drawing.specs.Conditions.{Labelling}
@@ -20,7 +20,7 @@ use Rattle.lines.specs.declared.Kind.{Kind}
 use Rattle.lines.specs.Kinds.{Follows}
 use Rattle.lines.specs.Printed.{Reported, Printed}
 use Rattle.lines.proofs.Text.{wrote-as, wrote-first}
-use Rattle.lines.proofs.Decimal.{named-short}
+use Rattle.lines.proofs.Decimal.{length-four, named-short}
 use Rattle.lines.proofs.Said.{saying-short}
 use Rattle.lines.proofs.Body.{body, long, body-length, body-labels, Sixteen, body-numbers, mixed-low, circle-low, cut-low}
 
@@ -28,14 +28,7 @@ pub heading-short : (n : ℕ) → n ≤ 14 → length (heading n) ≤ 26
 unfolding ascii
 heading-short n l =
     let w : List ℕ = ascii "result " ++ decimal n in
-    omega (
-      arith,
-      length-append (w ++ ascii " " ++ saying n) (ascii "\n"),
-      length-append (w ++ ascii " ") (saying n),
-      length-append w (ascii " "),
-      named-short (ascii "result ") n (omega arith),
-      saying-short n (omega arith),
-    )
+    omega (arith, length-four w (ascii " ") (saying n) (ascii "\n"), named-short (ascii "result ") n (omega arith), saying-short n (omega arith))
 
 -- ---- the results of each kind
 

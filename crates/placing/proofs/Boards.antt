@@ -49,4 +49,4 @@ module _ {g : Drawing} {here : List ℕ} (B : Board g here) where
   pub turn-meets : (c e : ℕ) → c < darts g → e < darts g → nth here c ≡ nth here e → Reach (turn g) c e
   turn-meets c e l m q =
       let r = face-same g (B .even) (B .rings) (after g c) (after g e) (B .rings .inside c l) (B .rings .inside e m) .1 (sym (B .faced .each c l) ∙ q ∙ B .faced .each e m) in
-      (r .0, after-inj g (B .rings) (iter (turn g) (r .0) c) e (iter-into (darts g) (turn g) turn-inj turn-into (r .0) c l) m (sym (turns (r .0) c) ∙ r .1))
+      (r .0, after-inj g (B .rings) (iter (turn g) (r .0) c) e (iter-into (darts g) (turn g) turn-into (r .0) c l) m (sym (turns (r .0) c) ∙ r .1))

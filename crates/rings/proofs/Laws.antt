@@ -14,7 +14,8 @@ use Rattle.finite.specs.Says.{Says}
 use Rattle.finite.proofs.Yes.{says-as, says-equal, says-lt}
 use Rattle.drawing.specs.Drawing.{Drawing, darts, event, after}
 use Rattle.drawing.specs.Conditions.{EventsKnown, Rings}
-use Rattle.drawing.proofs.Ringed.{Keeps, Kept, Marked, Traced, Ringed, mark-here, trace-step, trace-first, ring-closed, refuse-open, refuse-missed, ringed-skip, ringed-all, bare}
+use Rattle.drawing.proofs.Rounds.{Keeps, Kept}
+use Rattle.drawing.proofs.Ringed.{Marked, Traced, Ringed, mark-here, trace-step, trace-first, ring-closed, refuse-open, refuse-missed, ringed-skip, ringed-all, bare}
 use Rattle.rules.specs.Chart.{drawing}
 use Rattle.words.specs.Tables.{nth}
 use Rattle.chart.specs.Shape.{Shape}

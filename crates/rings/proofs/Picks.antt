@@ -1,6 +1,6 @@
 -- Darts stored at their events: each event that has a dart gets one. Assumes nothing.
 --   Stored g first d      what stands at an event is a dart of that event or none, and for each dart below d one stands at its event
-use mathlib.Core.Path.{_≡_, refl, sym, ap, _∙_}
+use mathlib.Core.Path.{_≡_, sym, ap, _∙_}
 use mathlib.Core.List.{List}
 use Prim.Native.Nat.{ℕ, _+_, _<_, _≤_}
 use native.Mathlib.Decide.{ℕ-discrete}

@@ -4,7 +4,7 @@
 --   Holds          the statement that a row makes
 --   table          the rows
 --   table-holds    every row holds
-use mathlib.Core.Path.{_≡_, refl}
+use mathlib.Core.Path.{_≡_}
 use mathlib.Core.Bool.{Bool, true, _&&_}
 use mathlib.Core.List.{List, [], _∷_, _++_, map}
 use Prim.Native.Nat.{ℕ}
@@ -16,7 +16,7 @@ use Rattle.finite.specs.Sums.{sum, δ, class, below}
 use Rattle.finite.specs.Steps.{iter, least, lowest}
 use Rattle.finite.specs.Lists.{sumℤ}
 use Rattle.finite.proofs.Decide.{isYes, is-yes, both-left, both-right, eq?, same?, same-ℤ?}
-use Rattle.drawing.specs.Drawing.{Drawing, twin, face, faceList, faces, corners, switches, room, entering, leaving, changes, mixedEvents, touches}
+use Rattle.drawing.specs.Drawing.{twin, face, faceList, faces, corners, switches, room, entering, leaving, changes, mixedEvents, touches}
 use Rattle.drawing.specs.Conditions.{larges, labels, roomOf}
 use Rattle.rules.specs.Words.{u16, words, bytes}
 use Rattle.rules.specs.Chart.{drawing, charted}

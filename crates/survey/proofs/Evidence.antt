@@ -1,14 +1,14 @@
 -- What the evidence of tests 12 and 13 shows, and the darts that were picked. Assumes nothing.
 use mathlib.Core.Path.{_≡_, refl, sym, ap, _∙_}
-use mathlib.Core.Bool.{Bool, true, false, cond}
-use mathlib.Core.List.{List, [], _∷_, _++_}
-use Prim.Native.Nat.{ℕ, zero, suc, _<_, _≤_}
+use mathlib.Core.Bool.{Bool, true, false}
+use mathlib.Core.List.{List, [], _∷_}
+use Prim.Native.Nat.{ℕ, _<_, _≤_}
 use native.Mathlib.Omega.{arith}
 use borrow.Author.Tests.{ltb-true}
 use lib.Dec.{ltb}
-use lib.ListN.{length, take, set, length-set}
+use lib.ListN.{length, take, set}
 use lib.Seq.{take-suc-set}
-use Rattle.finite.specs.Sums.{below}
+use Rattle.finite.proofs.Lists.{below-none}
 use Rattle.drawing.specs.Drawing.{Drawing, darts, changes, mixed, mixedEvents}
 use Rattle.drawing.specs.Conditions.{NoneMixed, Joined}
 use Rattle.drawing.proofs.Joins.{joined-dart}
@@ -17,11 +17,6 @@ use Rattle.rules.proofs.Bytes.{darts-even}
 use Rattle.words.specs.Tables.{nth}
 use Rattle.chart.specs.Shape.{Shape}
 use Rattle.chart.specs.Held.{Picked, Firsts}
-
-below-none : (n : ℕ) (p : ℕ → Bool) → ((i : ℕ) → i < n → p i ≡ false) → below n p ≡ []
-unfolding below
-below-none zero p h = refl
-below-none (suc n) p h = rw (h n (omega arith), below-none n p (λ i l. h i (omega arith)))
 
 -- a mixed event is listed only if there is one
 pub some-mixed : (g : Drawing) (m : ℕ) → take 1 (mixedEvents g) ≡ m ∷ [] → ¬ NoneMixed g

@@ -1,13 +1,10 @@
 -- What a chart past the tests has passed. Assumes nothing.
-use mathlib.Core.Path.{_≡_, sym, subst}
-use mathlib.Core.Logic.{inl, inr}
+use mathlib.Core.Path.{_≡_, subst}
 use mathlib.Core.List.{List, [], _∷_}
 use Prim.Native.Nat.{ℕ, _≤_}
-use native.Mathlib.Omega.{arith}
-use Rattle.rules.specs.Chart.{drawing}
-use Rattle.rules.specs.Tests.{Test, order, parted, crossing, mixing, circle, Given}
+use Rattle.rules.specs.Tests.{order, parted, crossing, mixing, circle, Given}
 use Rattle.rules.proofs.Chain.{given-first, given-highest}
-use Rattle.survey.specs.Past.{ringTests, climbTests, surveyTests, Formed, Past, Clear}
+use Rattle.survey.specs.Past.{ringTests, surveyTests, Formed, Past, Clear}
 
 -- tests 9 to 11 give no number above 11
 pub ring-small : (s : List ℕ) (r : ℕ) → Given ringTests s 0 r → r ≤ 11

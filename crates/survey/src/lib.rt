@@ -1,7 +1,6 @@
 // Tests 9 to 13, shared by the test and the judge: the fault, or none, with the tables that the later work needs.
 ghost use mathlib.Core.Path.{_≡_};
 ghost use lib.ListN.{length};
-ghost use Rattle.rules.specs.Chart.{drawing};
 ghost use Rattle.survey.specs.Past.{Formed, Past, Ringed, Climbed, Surveyed};
 
 // The fault, or 0; for 12 and 13 how many entries its evidence has.

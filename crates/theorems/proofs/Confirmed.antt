@@ -7,13 +7,14 @@ use mathlib.Core.Path.{_≡_, refl, sym, subst, _∙_}
 use mathlib.Core.Logic.{_↔_, _⊎_, inl, inr}
 use mathlib.Core.Bool.{Bool, true, false, cond, _&&_, _||_}
 use mathlib.Core.List.{List, [], _∷_, _++_}
-use Prim.Native.Nat.{ℕ, suc, _<_, _≤_}
+use Prim.Native.Nat.{ℕ, _<_, _≤_}
 use native.Mathlib.Decide.{ℕ-discrete}
 use native.Mathlib.Omega.{arith}
 use borrow.Author.Tests.{eqb-true, eq-eqb}
 use lib.Dec.{T, eqb}
-use lib.ListN.{length, getD}
+use lib.ListN.{length}
 use Rattle.finite.specs.Lists.{All}
+use Rattle.finite.proofs.Lists.{all-of}
 use Rattle.drawing.specs.Drawing.{Drawing, darts, plain, pole}
 use Rattle.drawing.specs.Conditions.{label, Labelling, Cut}
 use Rattle.rules.specs.Words.{bytes}
@@ -128,10 +129,6 @@ no-written g l C =
 abbrev Byte : ℕ → Type 0
 Byte b = b < 256
 
-all-by : (P : ℕ → Type 0) (l : List ℕ) → ((i : ℕ) → i < length l → P (getD l i 0)) → All P l
-all-by P [] h = tt
-all-by P (x ∷ l) h = (h 0 (omega arith), all-by P l (λ i k. h (suc i) (omega arith)))
-
 bytes-bytes : (P : ℕ → Type 0) → ((v : ℕ) → P v → v < 65536) → (l : List ℕ) → All P l → All Byte (bytes l)
 unfolding bytes
 bytes-bytes P small [] a = tt
@@ -152,7 +149,7 @@ headed n l t h k a =
 
 module _ (g : Drawing) (l : List ℕ) where
   pub labels-bytes : darts g < 65536 → Labelling g l → All Byte (report 0 l)
-  labels-bytes few L = rw (report-is 0 l refl) (headed 0 l l (omega arith) (omega (arith, L .size)) (all-by Byte l (label-byte g l L)))
+  labels-bytes few L = rw (report-is 0 l refl) (headed 0 l l (omega arith) (omega (arith, L .size)) (all-of Byte l (label-byte g l L)))
 
   pub cut-bytes : g .events < 65536 → Cut g l → All Byte (report 14 l)
   cut-bytes few C =

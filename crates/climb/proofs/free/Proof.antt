@@ -4,7 +4,8 @@ use native.Mathlib.Omega.{arith}
 use Rattle.rules.specs.Chart.{drawing}
 use Rattle.rules.proofs.Bytes.{darts-even}
 use borrow.Author.Needs.{needs}
-use Rattle.climb.proofs.Freeing.{read-few, some, freed-full, freed-set}
+use Rattle.words.proofs.Entries.{read-few}
+use Rattle.climb.proofs.Freeing.{some, freed-full, freed-set}
 use Rattle.climb.proofs.free.Statement.{statement}
 use Rattle.climb.proofs.free.Tie as tie
 

@@ -1,6 +1,7 @@
 -- `faces::push` meets its contract: an event without a mark gets one, and its dart the next place of the queue. Assumes nothing.
 use native.Mathlib.Omega.{arith}
-use Rattle.faces.proofs.Pushing.{marked-in, full, store, mark-few, still-few}
+use Rattle.words.proofs.Entries.{read-few}
+use Rattle.faces.proofs.Pushing.{marked-in, full, store, still-few}
 use borrow.Author.Needs.{needs}
 use Rattle.faces.proofs.push.Statement.{statement}
 use Rattle.faces.proofs.push.Tie as tie
@@ -18,12 +19,12 @@ unmarked-requires : tie.Need-unmarked-requires
 unmarked-requires c κs = search needs
 
 add-put : tie.Need-add-put
-add-put c = omega (arith, c .before .unmarked .ensures .2, mark-few (c .before .before .before .before .before .before .before .before .before .args .seen .now) _ _ (λ j. omega (arith, c .before .before .before .before .before .before .before .slice-known .given j)) (c .before .before .get .ensures))
+add-put c = omega (arith, c .before .unmarked .ensures .2, read-few (c .before .before .before .before .before .before .before .before .before .args .seen .now) _ _ (λ j. omega (arith, c .before .before .before .before .before .before .before .slice-known .given j)) (c .before .before .get .ensures))
 
 put-requires : tie.Need-put-requires
 put-requires c κs = (
   omega (arith, marked-in (c .before .before .before .before .before .before .before .before .before .pre) _ 0 (c .before .before .before .before .before .event-of .ensures)),
-  still-few (mark-few (c .before .before .before .before .before .before .before .before .before .args .seen .now) _ _ (λ j. omega (arith, c .before .before .before .before .before .before .before .slice-known .given j)) (c .before .before .get .ensures)) (c .before .unmarked .ensures),
+  still-few (read-few (c .before .before .before .before .before .before .before .before .before .args .seen .now) _ _ (λ j. omega (arith, c .before .before .before .before .before .before .before .slice-known .given j)) (c .before .before .get .ensures)) (c .before .unmarked .ensures),
 )
 
 put-requires-2 : tie.Need-put-requires-2

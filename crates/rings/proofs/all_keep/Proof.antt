@@ -5,7 +5,7 @@ use borrow.Author.Count.{below-more}
 use borrow.Author.Needs.{needs}
 use borrow.Author.Tests.{not-true, not-false}
 use Rattle.finite.proofs.Yes.{says-yes, says-no}
-use Rattle.drawing.proofs.Ringed.{Keeps}
+use Rattle.drawing.proofs.Rounds.{Keeps}
 use Rattle.rules.specs.Chart.{drawing}
 use Rattle.rings.proofs.all_keep.Statement.{statement}
 use Rattle.rings.proofs.all_keep.Tie as tie

@@ -4,6 +4,7 @@ use borrow.Author.Needs.{needs}
 use borrow.Author.Tests.{not-true, not-false}
 use Rattle.finite.proofs.Yes.{says-yes, says-no}
 use Rattle.finite.proofs.Filled.{lent, lent-length, blank}
+use Rattle.drawing.proofs.Rounds.{rings-kept}
 use Rattle.drawing.proofs.Ringed.{ringed-none}
 use Rattle.rings.proofs.one_ring_each.Statement.{statement}
 use Rattle.rings.proofs.one_ring_each.Tie as tie
@@ -14,7 +15,7 @@ all-keep-requires c κs = search needs
 returns : tie.Need-returns
 returns c = λ R.
     let k = c .before .all-keep in
-    says-no (not-true (k .result) (c .if1 .taken)) (k .ensures) (λ d l. (R .inside d l, R .stays d l))
+    says-no (not-true (k .result) (c .if1 .taken)) (k .ensures) (rings-kept _ R)
 
 first-darts-requires : tie.Need-first-darts-requires
 first-darts-requires c κs = search needs

@@ -2,7 +2,6 @@
 -- It ends because a dart without a mark gets one at each turn. Assumes nothing.
 use Prim.Native.Nat.{_<_}
 use lib.ListN.{getD}
-use native.Mathlib.Omega.{arith}
 use borrow.Author.Needs.{needs}
 use Rattle.drawing.proofs.Ringed.{Traced, unmarked, unmarked-falls, trace-start}
 use Rattle.rules.specs.Chart.{drawing}
