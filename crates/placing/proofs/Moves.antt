@@ -37,6 +37,73 @@ more-one s f x l = elim (ℕ-discrete x f) [
   | no d ↦ omega (arith, getD-set-other s f x (nth s f + 1) 0 d, δ-other f x (λ q. d (sym q)))
 ]
 
+-- ---- a seat: the corner c of the event e, whose face f has room
+
+pub record Seat (g : Drawing) (here L s : List ℕ) (e c f : ℕ) : Type 0 where
+  pub board : Board g here
+  pub valid : Valid g L s
+  pub inside : c < darts g
+  pub own : e ≡ event g c
+  pub face : f ≡ nth here c
+  pub room : 1 ≤ nth s f
+
+-- the event takes it
+module _ {g : Drawing} {here L s : List ℕ} {e c f : ℕ} (T : Seat g here L s e c f) where
+  pub event-in : e < g .events
+  event-in = omega (arith, T .own, T .board .known c (T .inside))
+
+  pub face-in : f < darts g
+  face-in = omega (arith, T .face, here-into (T .board) c (T .inside))
+
+  now-there : nth (set L e c) e ≡ c
+  now-there = getD-set-same L e c 0 (omega (arith, T .valid .events, event-in))
+
+  other : (v : ℕ) → v ≢ e → nth (set L e c) v ≡ nth L v
+  other v d = getD-set-other L e v c 0 d
+
+  own₁ : Own g (set L e c)
+  own₁ v l = elim (ℕ-discrete v e) [
+    | yes q ↦ inr (rw (q, now-there) (T .inside, sym (T .own)))
+    | no d ↦ rw (other v d) (T .valid .own v l)
+  ]
+
+  valid₁ : {s′ : List ℕ} → length s′ ≡ darts g → Valid g (set L e c) s′
+  valid₁ k = record { events = length-set L e c ∙ T .valid .events; faces = k; own = own₁ }
+
+  faces₁ : length (set s f (nth s f - 1)) ≡ darts g
+  faces₁ = length-set s f (nth s f - 1) ∙ T .valid .faces
+
+  none₁ : (v : ℕ) → v ≢ e → darts g ≤ nth L v → darts g ≤ nth (set L e c) v
+  none₁ v d z = rw (other v d) z
+
+  still₁ : (v : ℕ) → nth L v < darts g → nth (set L e c) v < darts g
+  still₁ v z = elim (ℕ-discrete v e) [
+    | yes q ↦ rw (q, now-there) (T .inside)
+    | no q ↦ rw (other v q) z
+  ]
+
+  -- what changes in the face x
+  load₁ : (x : ℕ) → load g here L x + δ f x ≡ load g here (set L e c) x + δ (faceOf here (nth L e)) x
+  load₁ x =
+      let q : faceOf here c ≡ f = face-of here c (omega (arith, T .inside, T .board .faced .size)) ∙ sym (T .face) in
+      rw q at (load-set g here L e c x (T .valid .events) event-in)
+
+  spare₁ : (x : ℕ) → nth (set s f (nth s f - 1)) x + δ f x ≡ nth s x
+  spare₁ x = less-one s f x (omega (arith, T .valid .faces, face-in)) (T .room)
+
+  -- it had no place before
+  pub placed-here : darts g ≤ nth L e → Placed g here L s e (set L e c) (set s f (nth s f - 1))
+  placed-here free = record {
+    valid = valid₁ faces₁;
+    total = λ x l. omega (arith, load₁ x, spare₁ x, δ-other (faceOf here (nth L e)) x (omega (arith, nowhere, T .board .faced .size)));
+    placed = rw now-there (T .inside);
+    none = λ v l d z. none₁ v d z;
+    still = λ v l d z. still₁ v z;
+  }
+    where
+      nowhere : faceOf here (nth L e) ≡ length here
+      nowhere = face-none here (nth L e) (omega (arith, free, T .board .faced .size))
+
 -- ---- the state of the moves: the placement L with the room s, after moves from L₀ and s₀; the face at place i of the list has room
 
 pub record Moving (g : Drawing) (here L₀ s₀ : List ℕ) (u : ℕ) (rank via L s : List ℕ) (i : ℕ) : Type 0 where
@@ -64,142 +131,99 @@ module _ {g : Drawing} {here L₀ s₀ : List ℕ} {u : ℕ} {rank via L s : Lis
     pub corner-in : c < darts g
     corner-in = omega (arith, M .way .held .entry i (M .way .inside) .0, M .board .faced .size)
 
-    module _ {e : ℕ} (is-e : e ≡ event g c) where
-      pub event-in : e < g .events
-      event-in = omega (arith, M .board .known c corner-in)
+    module _ {e : ℕ} (is-e : e ≡ event g c) {f : ℕ} (is-f : f ≡ nth here c) where
+      pub seat : Seat g here L s e c f
+      seat = record {
+        board = M .board;
+        valid = M .valid;
+        inside = corner-in;
+        own = is-e;
+        face = is-f;
+        room = omega (arith, M .way .spare, ap (nth s) (is-f ∙ ap (nth here) is-c));
+      }
 
-      module _ {f : ℕ} (is-f : f ≡ nth here c) where
-        pub face-in : f < darts g
-        face-in = omega (arith, here-into (M .board) c corner-in)
+      came : (e ≡ u) ⊎ ((nth L e < darts g) × ((Seen rank (nth here (nth L e))) × (nth rank (nth here (nth L e)) ≤ i)))
+      came =
+          subst (λ (x : ℕ). (x ≡ u) ⊎ ((nth L x < darts g) × ((Seen rank (nth here (nth L x))) × (nth rank (nth here (nth L x)) ≤ i))))
+          (sym (is-e ∙ ap (event g) is-c)) (M .way .from i (omega arith))
 
-        pub has-room : 1 ≤ nth s f
-        has-room = omega (arith, M .way .spare, ap (nth s) (is-f ∙ ap (nth here) is-c))
-
-        came : (e ≡ u) ⊎ ((nth L e < darts g) × ((Seen rank (nth here (nth L e))) × (nth rank (nth here (nth L e)) ≤ i)))
-        came =
-            subst (λ (x : ℕ). (x ≡ u) ⊎ ((nth L x < darts g) × ((Seen rank (nth here (nth L x))) × (nth rank (nth here (nth L x)) ≤ i))))
-            (sym (is-e ∙ ap (event g) is-c)) (M .way .from i (omega arith))
-
-        now-there : nth (set L e c) e ≡ c
-        now-there = getD-set-same L e c 0 (omega (arith, M .valid .events, event-in))
-
-        other : (v : ℕ) → v ≢ e → nth (set L e c) v ≡ nth L v
-        other v d = getD-set-other L e v c 0 d
-
-        own₁ : Own g (set L e c)
-        own₁ v l = elim (ℕ-discrete v e) [
-          | yes q ↦ inr (rw (q, now-there) (corner-in, sym is-e))
-          | no d ↦ rw (other v d) (M .valid .own v l)
-        ]
-
-        none₁ : (v : ℕ) → v < g .events → v ≢ u → darts g ≤ nth L₀ v → darts g ≤ nth (set L e c) v
-        none₁ v l d z =
-            let p : darts g ≤ nth L v = M .none v l d z in
-            rw (other v (λ q. ⊎-elim (λ a. d (q ∙ a)) (λ a. omega (arith, a .0, ap (nth L) q)) came)) p
-
-        still₁ : (v : ℕ) → v < g .events → v ≢ u → nth L₀ v < darts g → nth (set L e c) v < darts g
-        still₁ v l d z = elim (ℕ-discrete v e) [
-          | yes q ↦ rw (q, now-there) corner-in
-          | no q ↦ rw (other v q) (M .still v l d z)
-        ]
-
-        -- what changes in the face x
-        load₁ : (x : ℕ) → load g here L x + δ f x ≡ load g here (set L e c) x + δ (faceOf here (nth L e)) x
-        load₁ x =
-            let q : faceOf here c ≡ f = face-of here c (omega (arith, corner-in, M .board .faced .size)) ∙ sym is-f in
-            rw q at (load-set g here L e c x (M .valid .events) event-in)
-
-        spare₁ : (x : ℕ) → nth (set s f (nth s f - 1)) x + δ f x ≡ nth s x
-        spare₁ x = less-one s f x (omega (arith, M .valid .faces, face-in)) has-room
-
-        -- the event is u: it is placed
-        module _ (last : e ≡ u) where
-          total₁ : (x : ℕ) → x < darts g → hold g here (set L e c) (set s f (nth s f - 1)) x ≡ hold g here L s x
-          total₁ x l =
-              let z : faceOf here (nth L e) ≡ length here = face-none here (nth L e) (omega (arith, M .board .faced .size, ap (nth L) last, M .free)) in
-              omega (arith, load₁ x, spare₁ x, δ-other (faceOf here (nth L e)) x (omega (arith, M .board .faced .size)))
-
-          pub landed : Placed g here L₀ s₀ u (set L e c) (set s f (nth s f - 1))
-          landed = record {
-            valid = record {
-              events = length-set L e c ∙ M .valid .events;
-              faces = length-set s f (nth s f - 1) ∙ M .valid .faces;
-              own = own₁;
-            };
-            total = λ x l. total₁ x l ∙ M .total x l;
-            placed = subst (λ (x : ℕ). nth (set L e c) x < darts g) last (rw now-there corner-in);
-            none = none₁;
-            still = still₁;
+      -- the event is u: it is placed
+      pub landed : e ≡ u → Placed g here L₀ s₀ u (set L e c) (set s f (nth s f - 1))
+      landed last =
+          let P : Placed g here L s u (set L e c) (set s f (nth s f - 1)) =
+          subst (λ (x : ℕ). Placed g here L s x (set L e c) (set s f (nth s f - 1))) last (placed-here seat (omega (arith, ap (nth L) last, M .free))) in
+          record {
+            valid = P .valid;
+            total = λ x l. P .total x l ∙ M .total x l;
+            placed = P .placed;
+            none = λ v l d z. P .none v l d (M .none v l d z);
+            still = λ v l d z. P .still v l d (M .still v l d z);
           }
 
-        -- it is another: it leaves the face h, where it was at the corner old
-        module _ (more : e ≢ u) {old : ℕ} (is-old : old ≡ nth L e) where
-          left : (nth L e < darts g) × ((Seen rank (nth here (nth L e))) × (nth rank (nth here (nth L e)) ≤ i))
-          left = ⊎-elim (λ a. absurd (more a)) (λ b. b) came
+      -- it is another: it leaves the face h, where it was at the corner old
+      module _ (more : e ≢ u) {old : ℕ} (is-old : old ≡ nth L e) where
+        left : (nth L e < darts g) × ((Seen rank (nth here (nth L e))) × (nth rank (nth here (nth L e)) ≤ i))
+        left = ⊎-elim (λ a. absurd (more a)) (λ b. b) came
 
-          pub old-in : old < darts g
-          old-in = omega (arith, left .0)
+        pub old-in : old < darts g
+        old-in = omega (arith, left .0)
 
-          module _ {h : ℕ} (is-h : h ≡ nth here old) where
-            same-h : h ≡ nth here (nth L e)
-            same-h = is-h ∙ ap (nth here) is-old
+        module _ {h : ℕ} (is-h : h ≡ nth here old) where
+          same-h : h ≡ nth here (nth L e)
+          same-h = is-h ∙ ap (nth here) is-old
 
-            pub old-face : h < darts g
-            old-face = omega (arith, here-into (M .board) old old-in)
+          pub old-face : h < darts g
+          old-face = omega (arith, here-into (M .board) old old-in)
 
-            pub old-rank : (1 ≤ nth rank h) × (nth rank h ≤ i)
-            old-rank = rw same-h (left .1)
+          pub old-rank : (1 ≤ nth rank h) × (nth rank h ≤ i)
+          old-rank = rw same-h (left .1)
 
-            module _ {a : ℕ} (is-a : a ≡ nth s f) {s₁ : List ℕ} (stored : s₁ ≡ set s f (a - 1)) where
-              is-s : s₁ ≡ set s f (nth s f - 1)
-              is-s = stored ∙ ap (λ (x : ℕ). set s f (x - 1)) is-a
+          module _ {a : ℕ} (is-a : a ≡ nth s f) {s₁ : List ℕ} (stored : s₁ ≡ set s f (a - 1)) where
+            is-s : s₁ ≡ set s f (nth s f - 1)
+            is-s = stored ∙ ap (λ (x : ℕ). set s f (x - 1)) is-a
 
-              size₁ : length s₁ ≡ darts g
-              size₁ = ap length is-s ∙ length-set s f (nth s f - 1) ∙ M .valid .faces
+            size₁ : length s₁ ≡ darts g
+            size₁ = ap length is-s ∙ faces₁ seat
 
-              pub old-size : h < length s₁
-              old-size = omega (arith, size₁, old-face)
+            pub old-size : h < length s₁
+            old-size = omega (arith, size₁, old-face)
 
-              pub old-few : nth s₁ h ≤ hold g here L₀ s₀ h
-              old-few = omega (arith, ap (λ (y : List ℕ). nth y h) is-s, spare₁ h, M .total h old-face)
+            pub old-few : nth s₁ h ≤ hold g here L₀ s₀ h
+            old-few = omega (arith, ap (λ (y : List ℕ). nth y h) is-s, spare₁ seat h, M .total h old-face)
 
-              more₁ : (x : ℕ) → nth (set s₁ h (nth s₁ h + 1)) x ≡ nth s₁ x + δ h x
-              more₁ x = more-one s₁ h x (omega (arith, size₁, old-face))
+            more₁ : (x : ℕ) → nth (set s₁ h (nth s₁ h + 1)) x ≡ nth s₁ x + δ h x
+            more₁ x = more-one s₁ h x (omega (arith, size₁, old-face))
 
-              total₂ : (x : ℕ) → x < darts g → hold g here (set L e c) (set s₁ h (nth s₁ h + 1)) x ≡ hold g here L s x
-              total₂ x l =
-                  let z : faceOf here (nth L e) ≡ h = face-of here (nth L e) (omega (arith, left .0, M .board .faced .size)) ∙ sym same-h in
-                  omega (arith, load₁ x, spare₁ x, more₁ x, ap (λ (y : ℕ). δ y x) z, ap (λ (y : List ℕ). nth y x) is-s)
+            total₂ : (x : ℕ) → x < darts g → hold g here (set L e c) (set s₁ h (nth s₁ h + 1)) x ≡ hold g here L s x
+            total₂ x l =
+                let z : faceOf here (nth L e) ≡ h = face-of here (nth L e) (omega (arith, left .0, M .board .faced .size)) ∙ sym same-h in
+                omega (arith, load₁ seat x, spare₁ seat x, more₁ x, ap (λ (y : ℕ). δ y x) z, ap (λ (y : List ℕ). nth y x) is-s)
 
-              from₂ : (j : ℕ) → j ≤ nth rank h - 1 → From g here (set L e c) u rank via j
-              from₂ j l =
-                  let k : (1 ≤ nth rank h) × (nth rank h ≤ i) = old-rank in
-                  ⊎-elim (λ a. inl a)
-                  (λ b. inr (rw (other (event g (nth via j)) (λ q. absurd (omega (arith, b .1 .1, ap (λ (z : ℕ). nth rank (nth here (nth L z))) q, ap (nth rank) same-h)))) b))
-                  (M .way .from j (omega arith))
+            from₂ : (j : ℕ) → j ≤ nth rank h - 1 → From g here (set L e c) u rank via j
+            from₂ j l =
+                let k : (1 ≤ nth rank h) × (nth rank h ≤ i) = old-rank in
+                ⊎-elim (λ a. inl a)
+                (λ b. inr (rw (other seat (event g (nth via j)) (λ q. absurd (omega (arith, b .1 .1, ap (λ (z : ℕ). nth rank (nth here (nth L z))) q, ap (nth rank) same-h)))) b))
+                (M .way .from j (omega arith))
 
-              pub moved : Moving g here L₀ s₀ u rank via (set L e c) (set s₁ h (nth s₁ h + 1)) (nth rank h - 1)
-              moved = record {
-                board = M .board;
-                valid = record {
-                  events = length-set L e c ∙ M .valid .events;
-                  faces = length-set s₁ h (nth s₁ h + 1) ∙ size₁;
-                  own = own₁;
-                };
-                way = record {
-                  end = M .way .end;
-                  held = M .way .held;
-                  inside = omega (arith, old-rank .1, old-rank .0, M .way .inside);
-                  from = from₂;
-                  spare =
-                      let q : nth here (nth via (nth rank h - 1)) ≡ h = M .way .held .found h (old-rank .0) .1 in
-                      rw q (omega (arith, more₁ h, δ-same h));
-                };
-                free = rw (other u (λ q. more (sym q))) (M .free);
-                total = λ x l. total₂ x l ∙ M .total x l;
-                none = none₁;
-                still = still₁;
-              }
+            pub moved : Moving g here L₀ s₀ u rank via (set L e c) (set s₁ h (nth s₁ h + 1)) (nth rank h - 1)
+            moved = record {
+              board = M .board;
+              valid = valid₁ seat (length-set s₁ h (nth s₁ h + 1) ∙ size₁);
+              way = record {
+                end = M .way .end;
+                held = M .way .held;
+                inside = omega (arith, old-rank .1, old-rank .0, M .way .inside);
+                from = from₂;
+                spare =
+                    let q : nth here (nth via (nth rank h - 1)) ≡ h = M .way .held .found h (old-rank .0) .1 in
+                    rw q (omega (arith, more₁ h, δ-same h));
+              };
+              free = none₁ seat u (λ q. more (sym q)) (M .free);
+              total = λ x l. total₂ x l ∙ M .total x l;
+              none = λ v l d z. let p : darts g ≤ nth L v = M .none v l d z in none₁ seat v (λ q. omega (arith, left .0, ap (nth L) q)) p;
+              still = λ v l d z. still₁ seat v (M .still v l d z);
+            }
 
 -- ---- the moves end: u is placed
 

@@ -1,7 +1,7 @@
 -- `places::shift` meets its contract: each move keeps a valid placement, and the room moves to a face earlier in the list. Assumes nothing.
 use native.Mathlib.Omega.{arith}
 use borrow.Author.Needs.{needs}
-use Rattle.placing.proofs.Moves.{Moving, moving-start, place-in, corner-in, event-in, face-in, has-room, spare-few, landed, old-in, old-face, old-rank, old-size, old-few, moved}
+use Rattle.placing.proofs.Moves.{Moving, moving-start, place-in, corner-in, event-in, face-in, seat, spare-few, landed, old-in, old-face, old-rank, old-size, old-few, moved}
 use Rattle.rules.specs.Chart.{drawing}
 use Rattle.places.proofs.shift.Statement.{statement}
 use Rattle.places.proofs.shift.Tie as tie
@@ -38,18 +38,20 @@ get-requires-2 c κs =
 
 get-requires-3 : tie.Need-get-requires-3 Inv-loop μ-loop
 get-requires-3 c κs =
+    let get2 = c .before .get2 in
     let loop = c .before .before .before .before .loop in
     let get = c .before .before .before .get in
     let event-of = c .before .before .event-of in
-    omega (arith, event-in (loop .inv) (get .ensures) (event-of .ensures), loop .inv .valid .events)
+    omega (arith, event-in (seat (loop .inv) (get .ensures) (event-of .ensures) (get2 .ensures)), loop .inv .valid .events)
 
 put-requires : tie.Need-put-requires Inv-loop μ-loop
 put-requires c κs =
+    let get2 = c .before .before .before .get2 in
     let loop = c .before .before .before .before .before .before .loop in
     let get = c .before .before .before .before .before .get in
     let event-of = c .before .before .before .before .event-of in
     let pre = c .before .before .before .before .before .before .before .before .before .before .before .before .before .pre in
-    (omega (arith, event-in (loop .inv) (get .ensures) (event-of .ensures), loop .inv .valid .events), omega (arith, corner-in (loop .inv) (get .ensures), pre .reads .shape .darts, pre .reads .shape .few))
+    (omega (arith, event-in (seat (loop .inv) (get .ensures) (event-of .ensures) (get2 .ensures)), loop .inv .valid .events), omega (arith, corner-in (loop .inv) (get .ensures), pre .reads .shape .darts, pre .reads .shape .few))
 
 get-requires-4 : tie.Need-get-requires-4 Inv-loop μ-loop
 get-requires-4 c κs =
@@ -57,7 +59,7 @@ get-requires-4 c κs =
     let get = c .before .before .before .before .before .before .before .before .before .get in
     let event-of = c .before .before .before .before .before .before .before .before .event-of in
     let get2 = c .before .before .before .before .before .before .before .get2 in
-    omega (arith, face-in (loop .inv) (get .ensures) (event-of .ensures) (get2 .ensures), loop .inv .valid .faces)
+    omega (arith, face-in (seat (loop .inv) (get .ensures) (event-of .ensures) (get2 .ensures)), loop .inv .valid .faces)
 
 sub-put : tie.Need-sub-put Inv-loop μ-loop
 sub-put c =
@@ -66,7 +68,7 @@ sub-put c =
     let get = c .before .before .before .before .before .before .before .before .before .before .before .get in
     let event-of = c .before .before .before .before .before .before .before .before .before .before .event-of in
     let get2 = c .before .before .before .before .before .before .before .before .before .get2 in
-    omega (arith, get4 .ensures, has-room (loop .inv) (get .ensures) (event-of .ensures) (get2 .ensures))
+    omega (arith, get4 .ensures, seat (loop .inv) (get .ensures) (event-of .ensures) (get2 .ensures) .room)
 
 put-requires-2 : tie.Need-put-requires-2 Inv-loop μ-loop
 put-requires-2 c κs =
@@ -76,7 +78,8 @@ put-requires-2 c κs =
     let get2 = c .before .before .before .before .before .before .before .before .before .get2 in
     let get4 = c .before .get4 in
     let pre = c .before .before .before .before .before .before .before .before .before .before .before .before .before .before .before .before .before .before .before .pre in
-    (omega (arith, face-in (loop .inv) (get .ensures) (event-of .ensures) (get2 .ensures), loop .inv .valid .faces), omega (arith, get4 .ensures, spare-few (loop .inv) (get2 .result) (face-in (loop .inv) (get .ensures) (event-of .ensures) (get2 .ensures)), pre .few (get2 .result) (omega (arith, face-in (loop .inv) (get .ensures) (event-of .ensures) (get2 .ensures), pre .reads .shape .darts))))
+    let inside = face-in (seat (loop .inv) (get .ensures) (event-of .ensures) (get2 .ensures)) in
+    (omega (arith, inside, loop .inv .valid .faces), omega (arith, get4 .ensures, spare-few (loop .inv) (get2 .result) inside, pre .few (get2 .result) (omega (arith, inside, pre .reads .shape .darts))))
 
 same-length : tie.Need-same-length Inv-loop μ-loop
 same-length c = search needs
