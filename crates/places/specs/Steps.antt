@@ -2,7 +2,10 @@
 --   Reads s n here     the chart s with n darts, as the search reads it
 --   Near               a corner of an event whose face has room
 --   Asks, Answer       a search for a place of the event u, from its corner first: a place of the list, or 65535 and a crowd
+--   Few                what is placed in a face and its room left are 6,144 at most
+--   Sits               an event that has no place, and a corner of it whose face has room
 --   Shifts             the moves along the way that a search found
+--   Seeks, Sought      a place for the event u of corner first: it is placed, or it has none
 --   Turn, Seated       an event's turn: it is no pole, it is placed, or it has no place
 --   Begin, Settled     all events in turn: all poles are placed, or a crowd of poles with the first that has no place
 --   Tables             the tables before the first search
@@ -56,18 +59,40 @@ pub record Answer (g : Drawing) (here L sp : List ℕ) (u : ℕ) (rank via : Lis
   pub way : at < 65535 → Way g here L sp u rank via at
   pub stuck : 65535 ≤ at → Crowd g (hold g here L sp) (member here L rank u)
 
+abbrev pub Few : List ℕ → ℕ → List ℕ → List ℕ → List ℕ → Type 0
+Few s n here L sp = (f : ℕ) → f < n → hold (drawing s) here L sp f ≤ 6144
+
+pub record Sits (s : List ℕ) (n : ℕ) (here L sp : List ℕ) (e c : ℕ) : Type 0 where
+  pub reads : Reads s n here
+  pub valid : Valid (drawing s) L sp
+  pub few : Few s n here L sp
+  pub inside : c < n
+  pub own : event (drawing s) c ≡ e
+  pub room : 1 ≤ nth sp (nth here c)
+  pub free : n ≤ nth L e
+
 -- the place i of the list has room, and from it the way back to u stands
 pub record Shifts (s : List ℕ) (n : ℕ) (here rank via L sp : List ℕ) (u i : ℕ) : Type 0 where
   pub reads : Reads s n here
   pub valid : Valid (drawing s) L sp
-  pub few : (f : ℕ) → f < n → hold (drawing s) here L sp f ≤ 6144
+  pub few : Few s n here L sp
   pub way : Way (drawing s) here L sp u rank via i
   pub free : n ≤ nth L u
+
+pub record Seeks (s : List ℕ) (n : ℕ) (here L sp rank via : List ℕ) (u first : ℕ) : Type 0 where
+  pub asks : Asks s n here L sp rank via u first
+  pub few : Few s n here L sp
+
+pub record Sought (g : Drawing) (here L sp : List ℕ) (u : ℕ) (L′ sp′ rank′ via′ : List ℕ) (r : ℕ) : Type 0 where
+  pub few : r ≤ 1
+  pub ranks : length rank′ ≡ darts g
+  pub placed : r ≡ 1 → Placed g here L sp u L′ sp′ × Fresh (darts g) rank′ via′
+  pub stuck : r ≡ 0 → (L′ ≡ L) × (sp′ ≡ sp) × Crowd g (hold g here L sp) (member here L rank′ u)
 
 pub record Turn (s : List ℕ) (n : ℕ) (here poles first L sp rank via : List ℕ) (e : ℕ) : Type 0 where
   pub reads : Reads s n here
   pub valid : Valid (drawing s) L sp
-  pub few : (f : ℕ) → f < n → hold (drawing s) here L sp f ≤ 6144
+  pub few : Few s n here L sp
   pub poled : length poles ≡ drawing s .events
   pub firsts : Firsts (drawing s) first
   pub fresh : Fresh (darts (drawing s)) rank via

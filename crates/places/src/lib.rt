@@ -1,9 +1,10 @@
 // Places for sources and sinks: a labelling, or a cut where there is none.
 //
 // A placement has for each source and sink one of its own corners, its large one, and no face holds more of them than its
-// room. To place an event, a search lists faces: those that it touches, then for each listed face without room those that
-// the events placed there touch. A face with room gives the way back, along which events move one by one. Where no listed
-// face has room, the event and all who are placed in listed faces are a cut.
+// room. An event that touches a face with room is placed there at once. Else a search lists faces: those that it touches,
+// then for each listed face without room those that the events placed there touch. A face with room gives the way back,
+// along which events move one by one. Where no listed face has room, the event and all who are placed in listed faces are
+// a cut.
 ghost use mathlib.Core.Path.{_≡_};
 ghost use Prim.Native.Nat.{_≤_, _<_};
 ghost use lib.ListN.{length};
@@ -13,7 +14,7 @@ ghost use Rattle.rules.specs.Chart.{drawing};
 ghost use Rattle.chart.specs.Shape.{Shape};
 ghost use Rattle.placing.specs.Board.{turn as nextCorner};
 ghost use Rattle.placing.specs.Search.{Blank, Held, Listed, Touched, Visited, Scanned, member, Placed, Listing};
-ghost use Rattle.places.specs.Steps.{Reads, Ranks, Near, Asks, Answer, Shifts, Turn, Seated, Begin, Settled, Tables, labelOf, Labels};
+ghost use Rattle.places.specs.Steps.{Reads, Ranks, Near, Asks, Answer, Sits, Shifts, Seeks, Sought, Turn, Seated, Begin, Settled, Tables, labelOf, Labels};
 ghost use Rattle.places.specs.Found.{Ready, Found};
 
 // Lists the face of corner c, unless it is listed. Returns the new end of the list.
@@ -184,27 +185,23 @@ fn room_near(chart: &[u8], n: usize, here: &[u16], spare: &[u16], first: usize) 
     65535
 }
 
-// Looks for a place of the event u of corner first: in a face that it touches, or else by a search.
-fn find(
+// Gives event e the corner c, whose face has room, as its place.
+fn sit(
     chart: &[u8],
     n: usize,
     here: &[u16],
-    spare: &[u16],
-    large: &[u16],
-    rank: &mut [u16],
-    via: &mut [u16],
-    u: usize,
-    first: usize,
-) -> Stop
-    requires { ⌜ Asks (now chart) n (now here) (now large) (now spare) (now rank) (now via) u first ⌝ }
-    ensures { λ r. ⌜ Answer (drawing (now (chart .entry))) (now (here .entry)) (now (large .entry)) (now (spare .entry)) u (now (rank .exit)) (now (via .exit)) (r .at) (r .end) ⌝ }
+    large: &mut [u16],
+    spare: &mut [u16],
+    e: usize,
+    c: usize,
+)
+    requires { ⌜ Sits (now chart) n (now here) (now large) (now spare) e c ⌝ }
+    ensures { λ _. ⌜ Placed (drawing (now (chart .entry))) (now (here .entry)) (now (large .entry)) (now (spare .entry)) e (now (large .exit)) (now (spare .exit)) ⌝ }
 {
-    let c = room_near(chart, n, here, spare, first);
-    if c < 65535 {
-        let t = list_face(here, rank, via, 0, c);
-        return Stop { at: 0, end: t };
-    }
-    search(chart, n, here, spare, large, rank, via, u, first)
+    let f = words::get(here, c);
+    words::put(large, e, c);
+    let left = words::get(spare, f);
+    words::put(spare, f, left - 1);
 }
 
 // Moves events one by one, from the face with room at place start of the list back to the event u, which had no place.
@@ -242,6 +239,38 @@ fn shift(
     }
 }
 
+// Looks for a place of the event u of corner first, and places it: at once in a face with room that it touches, or else by
+// a search. 1: it is placed; 0: it has no place.
+fn seek(
+    chart: &[u8],
+    n: usize,
+    here: &[u16],
+    large: &mut [u16],
+    spare: &mut [u16],
+    rank: &mut [u16],
+    via: &mut [u16],
+    u: usize,
+    first: usize,
+) -> usize
+    requires { ⌜ Seeks (now chart) n (now here) (now large) (now spare) (now rank) (now via) u first ⌝ }
+    ensures { λ r. ⌜ Sought (drawing (now (chart .entry))) (now (here .entry)) (now (large .entry)) (now (spare .entry)) u (now (large .exit)) (now (spare .exit)) (now (rank .exit)) (now (via .exit)) r ⌝ }
+{
+    let c = room_near(chart, n, here, spare, first);
+    if c < 65535 {
+        sit(chart, n, here, large, spare, u, c);
+        return 1;
+    }
+    let stop = search(chart, n, here, spare, large, rank, via, u, first);
+    let i = stop.at;
+    if 65535 <= i {
+        return 0;
+    }
+    shift(chart, n, here, rank, via, large, spare, u, i);
+    let t = stop.end;
+    clear(here, rank, via, t);
+    1
+}
+
 // Finds a place for event e if it is a source or sink: 2 if it is none, 1 if it is placed, 0 if it has no place.
 fn seat(
     chart: &[u8],
@@ -262,15 +291,7 @@ fn seat(
         return 2;
     }
     let d = words::get(first, e);
-    let stop = find(chart, n, here, spare, large, rank, via, e, d);
-    let i = stop.at;
-    if 65535 <= i {
-        return 0;
-    }
-    shift(chart, n, here, rank, via, large, spare, e, i);
-    let t = stop.end;
-    clear(here, rank, via, t);
-    1
+    seek(chart, n, here, large, spare, rank, via, e, d)
 }
 
 // Places the sources and sinks in event order. Returns the first that has no place, or 65535.
