@@ -1,7 +1,7 @@
 -- `places::find_places` meets its contract: the tables that it lends place nobody and list nothing. Assumes nothing.
 use native.Mathlib.Omega.{arith}
 use Rattle.finite.proofs.Filled.{lent, lent-length}
-use lib.ListN.{length, replicate, length-replicate}
+use lib.ListN.{length, replicate}
 use Prim.Native.Nat.{ℕ}
 use mathlib.Core.Path.{_∙_, ap}
 use borrow.Author.Needs.{needs}
