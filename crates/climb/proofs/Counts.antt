@@ -79,12 +79,13 @@ module _ (left list : List ℕ) (v t : ℕ) (U : Upto left list v t) where
   upto-few = inj-le t v (nth list) (U .once) (U .inside)
 
   pub upto-step : v < length left → (list′ : List ℕ) (t′ : ℕ) → Sourced left list t v list′ t′ → Upto left list′ (v + 1) t′
-  upto-step l list′ t′ (other some) = record {
-    room = U .room;
-    inside = λ i h. omega (arith, U .inside i h);
-    once = U .once;
-    gone = U .gone;
-    found = below-more (λ (u : ℕ). nth left u ≡ 0 → (i : ℕ) × (i < t) × (nth list i ≡ u)) v (U .found) (λ z. absurd (omega arith));
+  upto-step l list′ t′ (other some S) = record {
+    room = S .0 ∙ U .room;
+    inside = λ i h. omega (arith, S .1 i h, U .inside i h);
+    once = λ i j a b q. U .once i j a b (sym (S .1 i a) ∙ q ∙ S .1 j b);
+    gone = λ i h. ap (nth left) (S .1 i h) ∙ U .gone i h;
+    found = below-more (λ (u : ℕ). nth left u ≡ 0 → (i : ℕ) × (i < t) × (nth list′ i ≡ u)) v
+        (λ u h w. let f = U .found u h w in (f .0, f .1, S .1 (f .0) (f .1) ∙ f .2)) (λ z. absurd (omega arith));
   }
   upto-step l list′ t′ (free z) =
       let new : List ℕ = set list t v in

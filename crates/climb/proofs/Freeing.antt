@@ -8,7 +8,20 @@ use lib.ListN.{length, set, length-set}
 use lib.Seq.{set-getD, getD-set-other}
 use Rattle.drawing.specs.Drawing.{Drawing, event, enters}
 use Rattle.words.specs.Tables.{nth}
-use Rattle.climb.specs.Peel.{Ready, Same, Freed, entered, fewer, last}
+use Rattle.climb.specs.Peel.{Ready, Same, Freed, entered, fewer, last, Sourced, free, other}
+
+-- a store at place t leaves the entries before it
+pub set-same : (list : List ℕ) (t e : ℕ) → Same list t (set list t e)
+set-same list t e = (length-set list t e, λ i l. getD-set-other list t i e 0 (λ q. omega arith))
+
+-- the event v, which k arrows enter, is stored at the list's end, which moves by r
+pub sourced : (left list : List ℕ) (t v k r : ℕ) → k ≡ nth left v → (k < 1 → r ≡ 1) × (1 ≤ k → r ≡ 0) × (r < 2) → Sourced left list t v (set list t v) (t + r)
+sourced left list t v k r q w = elim (decLt k 1) [
+  | yes z ↦ let more : t + r ≡ t + 1 = omega (arith, w .0 z) in rw more (free (omega arith))
+  | no z ↦ let stay : t + r ≡ t = omega (arith, w .1 (omega arith)) in rw stay (other (omega arith) (set-same list t v))
+]
+
+-- ---- the arrow of dart c is taken away, if it leaves its event
 
 module _ (g : Drawing) (c : ℕ) (left list : List ℕ) (t e k : ℕ) (ready : enters c ≡ 0 → Ready g c left list t)
     (at : e ≡ event g (c + 1 - c % 2)) (read : k ≡ nth left e) where
@@ -47,7 +60,7 @@ module _ (g : Drawing) (c : ℕ) (left list : List ℕ) (t e k : ℕ) (ready : e
     -- the event is stored at the list's end, which moves by r
     module _ (list′ : List ℕ) (listed : list′ ≡ set list t e) (r : ℕ) (ones : k + 2 * (c % 2) < 2 → r ≡ 1) (zeros : 2 ≤ k + 2 * (c % 2) → r ≡ 0) where
       same : Same list t list′
-      same = rw listed (length-set list t e, λ i l. getD-set-other list t i e 0 (λ q. omega arith))
+      same = rw listed (set-same list t e)
 
       pub freed-set : Freed g c left list t left′ list′ (t + r)
       freed-set = elim (ℕ-discrete (c % 2) 0) [

@@ -68,4 +68,4 @@ Peeled g left list h t = Held g left list h t (λ v. sum h (λ i. between g (nth
 -- what becomes of the list where the event v is looked at
 pub data Sourced (left list : List ℕ) (t v : ℕ) : List ℕ → ℕ → Type 0 where
   free : nth left v ≡ 0 → Sourced left list t v (set list t v) (t + 1)
-  other : 0 < nth left v → Sourced left list t v list t
+  other : {list′ : List ℕ} → 0 < nth left v → Same list t list′ → Sourced left list t v list′ t

@@ -68,16 +68,14 @@ fn count_entering(chart: &[u8], n: usize, left: &mut [u16])
     }
 }
 
-// Lists the event v at place t if it has 0 in left, and answers the list's new end.
+// Lists the event v at place t if it has 0 in left, and answers the list's new end. Nothing branches on it: what stands at the end counts only once the
+// end is moved.
 fn list_free(left: &[u16], list: &mut [u16], t: usize, v: usize) -> usize
     requires { ⌜ (v < length (now left)) × (t < length (now list)) × (v < 65536) ⌝ }
     ensures { λ r. ⌜ Sourced (now (left .entry)) (now (list .entry)) t v (now (list .exit)) r ⌝ }
 {
-    if 1 <= words::get(left, v) {
-        return t;
-    }
     words::put(list, t, v);
-    t + 1
+    t + words::below(words::get(left, v), 1)
 }
 
 // Lists the events with 0 in left, and answers how many there are.
@@ -92,13 +90,6 @@ fn list_all_free(left: &[u16], list: &mut [u16]) -> usize
         e += 1;
     }
     t
-}
-
-// 1 for the last of k arrows, else 0.
-fn is_last(k: usize) -> usize
-    ensures { λ r. ⌜ (k < 2 → r ≡ 1) × (2 ≤ k → r ≡ 0) × (r < 2) ⌝ }
-{
-    if k < 2 { 1 } else { 0 }
 }
 
 // Takes away the arrow of dart c, if it leaves its event. Where it was the last into its head, that goes on the list; answers the list's end.
@@ -117,7 +108,7 @@ fn free(chart: &[u8], n: usize, left: &mut [u16], list: &mut [u16], t: usize, c:
         return t;
     }
     words::put(list, t, e);
-    t + is_last(k + 2 * m)
+    t + words::below(k + 2 * m, 2)
 }
 
 // Takes away the arrows that leave the event at place h of the list, and answers the list's new end.

@@ -14,13 +14,6 @@ ghost use Rattle.faces.specs.Joining.{Ground, Ready, Pushed, Rounded, Ex
 
 // ---- test 10
 
-// 1 for an event with the mark m that has none, else 0.
-fn unmarked(m: usize) -> usize
-    ensures { λ r. ⌜ (m < 1 → r ≡ 1) × (1 ≤ m → r ≡ 0) × (r < 2) ⌝ }
-{
-    if m < 1 { 1 } else { 0 }
-}
-
 // Marks the event of dart x and puts x at the queue's end, unless the event is marked. Answers the new end.
 // Nothing branches on the mark: a mark is stored again, and what stands at the queue's end counts only once the end is moved.
 fn push(chart: &[u8], n: usize, seen: &mut [u16], queue: &mut [u16], tail: usize, x: usize) -> usize
@@ -32,7 +25,7 @@ fn push(chart: &[u8], n: usize, seen: &mut [u16], queue: &mut [u16], tail: usize
         return tail;
     }
     let m = words::get(seen, v);
-    let new = unmarked(m);
+    let new = words::below(m, 1);
     words::put(seen, v, m + new);
     words::put(queue, tail, x);
     tail + new

@@ -1,6 +1,6 @@
 // 16-bit numbers in bytes, low byte first; entries of tables; the twin of a dart.
 ghost use mathlib.Core.Path.{_≡_};
-ghost use Prim.Native.Nat.{_+_, _<_};
+ghost use Prim.Native.Nat.{_+_, _<_, _≤_};
 ghost use lib.ListN.{length, set, replicate};
 ghost use Rattle.rules.specs.Words.{u16 as wordAt};
 ghost use Rattle.drawing.specs.Drawing.{twin as otherDart};
@@ -55,6 +55,13 @@ pub fn fill(t: &mut [u16], x: u16)
         t[i] = x;
         i += 1;
     }
+}
+
+// 1 where a is below b, else 0: a count that goes on without a branch.
+pub fn below(a: usize, b: usize) -> usize
+    ensures { λ r. ⌜ (a < b → r ≡ 1) × (b ≤ a → r ≡ 0) × (r < 2) ⌝ }
+{
+    if a < b { 1 } else { 0 }
 }
 
 // The other dart of the arrow of d: the lowest bit turned over, without a branch on it.

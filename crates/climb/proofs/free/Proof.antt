@@ -53,17 +53,17 @@ put-requires-2 c κs =
       omega (arith, c .before .before .before .before .before .before .before .before .event-of .ensures, a .pre .0 .0 .events .1, a .pre .0 .3 (a .args .c + 1 - a .args .c % 2) (omega (arith, a .pre .0 .0 .darts, darts-even (a .args .chart .now)))),
     )
 
-mul-is-last : tie.Need-mul-is-last
-mul-is-last c = search needs
+mul-below : tie.Need-mul-below
+mul-below c = search needs
 
-add-is-last : tie.Need-add-is-last
-add-is-last c = omega (arith, read-few (c .before .before .before .before .before .before .before .before .before .before .before .before .before .before .before .args .left .now) _ _ (λ j. omega (arith, c .before .before .before .before .before .before .before .before .before .before .before .before .before .slice-known .given j)) (c .before .before .before .before .before .before .before .before .before .get .ensures))
+add-below : tie.Need-add-below
+add-below c = omega (arith, read-few (c .before .before .before .before .before .before .before .before .before .before .before .before .before .before .before .args .left .now) _ _ (λ j. omega (arith, c .before .before .before .before .before .before .before .before .before .before .before .before .before .slice-known .given j)) (c .before .before .before .before .before .before .before .before .before .get .ensures))
 
-is-last-requires : tie.Need-is-last-requires
-is-last-requires c κs = search needs
+below-requires : tie.Need-below-requires
+below-requires c κs = search needs
 
 add-result : tie.Need-add-result
-add-result c = omega (arith, c .is-last .ensures .2, c .before .before .before .before .before .before .before .before .before .before .before .before .before .before .before .before .pre .0 .2)
+add-result c = omega (arith, c .below .ensures .2, c .before .before .before .before .before .before .before .before .before .before .before .before .before .before .before .before .pre .0 .2)
 
 same-length-2 : tie.Need-same-length-2
 same-length-2 c = search needs
@@ -74,7 +74,7 @@ same-length-3 c = search needs
 returns-2 : tie.Need-returns-2
 returns-2 c =
     let a = c .before .before .before .before .before .before .before .before .before .before .before .before .before .before .before .before in
-    freed-set (drawing (a .args .chart .now)) _ _ _ _ _ _ (a .pre .1 .1) (c .before .before .before .before .before .before .before .before .before .before .before .before .event-of .ensures) (c .before .before .before .before .before .before .before .before .before .before .get .ensures) _ (c .before .before .before .before .before .before .before .before .put .ensures) _ (c .before .before .before .put2 .ensures) _ (c .is-last .ensures .0) (c .is-last .ensures .1)
+    freed-set (drawing (a .args .chart .now)) _ _ _ _ _ _ (a .pre .1 .1) (c .before .before .before .before .before .before .before .before .before .before .before .before .event-of .ensures) (c .before .before .before .before .before .before .before .before .before .before .get .ensures) _ (c .before .before .before .before .before .before .before .before .put .ensures) _ (c .before .before .before .put2 .ensures) _ (c .below .ensures .0) (c .below .ensures .1)
 
 pub free-spec : {M : Type 1} → statement M
 free-spec =
@@ -90,9 +90,9 @@ free-spec =
     same-length
     returns
     put-requires-2
-    mul-is-last
-    add-is-last
-    is-last-requires
+    mul-below
+    add-below
+    below-requires
     add-result
     same-length-2
     same-length-3

@@ -15,16 +15,16 @@ returns c = full (c .before .before .before .before .before .pre) _ 0 (c .before
 get-requires : tie.Need-get-requires
 get-requires c κs = omega (arith, marked-in (c .before .before .before .before .before .before .pre) _ 0 (c .before .before .event-of .ensures))
 
-unmarked-requires : tie.Need-unmarked-requires
-unmarked-requires c κs = search needs
+below-requires : tie.Need-below-requires
+below-requires c κs = search needs
 
 add-put : tie.Need-add-put
-add-put c = omega (arith, c .before .unmarked .ensures .2, read-few (c .before .before .before .before .before .before .before .before .before .args .seen .now) _ _ (λ j. omega (arith, c .before .before .before .before .before .before .before .slice-known .given j)) (c .before .before .get .ensures))
+add-put c = omega (arith, c .before .below .ensures .2, read-few (c .before .before .before .before .before .before .before .before .before .args .seen .now) _ _ (λ j. omega (arith, c .before .before .before .before .before .before .before .slice-known .given j)) (c .before .before .get .ensures))
 
 put-requires : tie.Need-put-requires
 put-requires c κs = (
   omega (arith, marked-in (c .before .before .before .before .before .before .before .before .before .pre) _ 0 (c .before .before .before .before .before .event-of .ensures)),
-  still-few (read-few (c .before .before .before .before .before .before .before .before .before .args .seen .now) _ _ (λ j. omega (arith, c .before .before .before .before .before .before .before .slice-known .given j)) (c .before .before .get .ensures)) (c .before .unmarked .ensures),
+  still-few (read-few (c .before .before .before .before .before .before .before .before .before .args .seen .now) _ _ (λ j. omega (arith, c .before .before .before .before .before .before .before .slice-known .given j)) (c .before .before .get .ensures)) (c .before .below .ensures),
 )
 
 put-requires-2 : tie.Need-put-requires-2
@@ -41,7 +41,7 @@ same-length-2 c = search needs
 
 returns-2 : tie.Need-returns-2
 returns-2 c =
-    let new = c .before .before .before .before .before .before .before .before .unmarked .ensures in
+    let new = c .before .before .before .before .before .before .before .before .below .ensures in
     store (c .before .before .before .before .before .before .before .before .before .before .before .before .before .before .before .before .pre) _ _ (c .before .before .before .before .before .before .before .before .before .before .before .before .event-of .ensures) (c .before .before .before .before .before .before .before .before .before .get .ensures) _ (new .0) (new .1) _ _ (c .before .before .before .before .before .before .put .ensures) (c .before .before .put2 .ensures)
 
 pub push-spec : {M : Type 1} → statement M
@@ -51,7 +51,7 @@ push-spec =
     event-of-requires
     returns
     get-requires
-    unmarked-requires
+    below-requires
     add-put
     put-requires
     put-requires-2
