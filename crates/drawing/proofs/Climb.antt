@@ -17,6 +17,7 @@ use Rattle.finite.specs.Lists.{All, Distinct, LowestFirst}
 use Rattle.finite.proofs.Decide.{any?, ¬?, _×?_}
 use Rattle.finite.proofs.Sum.{sum-term, sum-change}
 use Rattle.finite.proofs.Perm.{pigeon}
+use Rattle.finite.proofs.Filled.{table, table-length, table-at}
 use Rattle.finite.proofs.Orbit.{iter-add, first, cycle, least-le, least-met}
 use Rattle.drawing.specs.Drawing.{Drawing, arrows, tail, head}
 use Rattle.drawing.specs.Conditions.{EventsKnown, Runs, Round, Circle, NoCircle}
@@ -225,22 +226,6 @@ module _ (g : Drawing) (into : ℕ → ℕ) where
             omega (arith, t .2, least-le (T .span) (λ k. into (before g into s k)) (c .0) (omega arith), ap into (c .2), ap into (iter-add (back g into) k (t .0) s)),
       )
 
--- the numbers f 0 .. f (n - 1)
-listed : ℕ → (ℕ → ℕ) → List ℕ
-listed zero f = []
-listed (suc n) f = f 0 ∷ listed n (λ i. f (suc i))
-
-listed-length : (n : ℕ) (f : ℕ → ℕ) → length (listed n f) ≡ n
-unfolding listed
-listed-length zero f = refl
-listed-length (suc n) f = ap suc (listed-length n (λ i. f (suc i)))
-
-listed-at : (n : ℕ) (f : ℕ → ℕ) (i : ℕ) → i < n → at (listed n f) i ≡ f i
-unfolding listed
-listed-at zero f i l = absurd (not-suc-le-zero l)
-listed-at (suc n) f zero l = refl
-listed-at (suc n) f (suc i) l = listed-at n (λ i. f (suc i)) i (omega arith)
-
 -- ---- a set of events, each with an entering arrow from the set: v is in the set where S v is not 0
 
 -- a circle with its lowest arrow first, which passes no event twice
@@ -276,11 +261,11 @@ module _ (g : Drawing) (S : ℕ → ℕ) (small : (v : ℕ) → 0 < S v → v < 
       let r = lowest-turning g into _ T in
       let t = first-turn g into (r .0) (r .1) in
       let f : ℕ → ℕ = λ i. into (before g into (r .0) (t .0 - i)) in (
-        listed (t .0) f,
+        table (t .0) f,
         record {
-          circle = turn-circle g into (r .0) (t .0) (t .1) (listed (t .0) f) (listed-length (t .0) f) (listed-at (t .0) f);
-          lowest = turn-lowest g into (r .0) (t .0) (t .1) (listed (t .0) f) (listed-length (t .0) f) (listed-at (t .0) f) (r .2);
-          tails = turn-tails g into (r .0) (t .0) (t .1) (listed (t .0) f) (listed-length (t .0) f) (listed-at (t .0) f);
+          circle = turn-circle g into (r .0) (t .0) (t .1) (table (t .0) f) (table-length (t .0) f) (table-at (t .0) f);
+          lowest = turn-lowest g into (r .0) (t .0) (t .1) (table (t .0) f) (table-length (t .0) f) (table-at (t .0) f) (r .2);
+          tails = turn-tails g into (r .0) (t .0) (t .1) (table (t .0) f) (table-length (t .0) f) (table-at (t .0) f);
         },
       )
 

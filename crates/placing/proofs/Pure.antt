@@ -1,13 +1,12 @@
 -- Without code: a search finds a place or a crowd, so every board has a placement of all its poles or a crowd of poles. Assumes nothing.
-use mathlib.Core.Path.{_≡_, refl, ap, _∙_}
+use mathlib.Core.Path.{_≡_, refl, _∙_}
 use mathlib.Core.Logic.{_⊎_, inl, inr, ⊎-elim}
-use mathlib.Core.List.{List, [], _∷_}
+use mathlib.Core.List.{List}
 use Prim.Native.Nat.{ℕ, zero, suc, _+_, _≤_, _<_}
-use native.Mathlib.Nat.{not-suc-le-zero, le-of-suc-le-suc}
 use native.Mathlib.Decide.{ℕ-discrete, decLt}
 use native.Mathlib.Omega.{arith}
 use native.Mathlib.Numerals.{add-one}
-use lib.ListN.{length, set, replicate, length-replicate}
+use lib.ListN.{length, set, replicate, length-replicate, getD-replicate}
 use Rattle.finite.proofs.Decide.{any?, _×?_, _⊎?_}
 use Rattle.finite.proofs.Filled.{blank}
 use Rattle.drawing.specs.Drawing.{Drawing, darts, event}
@@ -19,23 +18,6 @@ use Rattle.placing.proofs.Listing.{held-none, listed-more, end-in}
 use Rattle.placing.proofs.Moves.{moving-start, shift}
 use Rattle.placing.proofs.Finds.{from-kept, stuck}
 use Rattle.placing.proofs.Settles.{settle-start, settle-done, settle-skip, settle-free, settle-add, settle-poles, settle-crowd}
-
--- ---- a table of values
-
-unfoldable pub table : ℕ → (ℕ → ℕ) → List ℕ
-table zero f = []
-table (suc n) f = f 0 ∷ table n (λ i. f (suc i))
-
-pub table-length : (n : ℕ) (f : ℕ → ℕ) → length (table n f) ≡ n
-unfolding table
-table-length zero f = refl
-table-length (suc n) f = ap suc (table-length n (λ i. f (suc i)))
-
-pub table-at : (n : ℕ) (f : ℕ → ℕ) (i : ℕ) → i < n → nth (table n f) i ≡ f i
-unfolding table
-table-at zero f i l = absurd (not-suc-le-zero l)
-table-at (suc n) f zero l = refl
-table-at (suc n) f (suc i) l = table-at n (λ i. f (suc i)) i (le-of-suc-le-suc l)
 
 -- ---- a search
 
@@ -115,8 +97,8 @@ module _ {g : Drawing} {here : List ℕ} (poles : ℕ → ℕ) (B : Board g here
 
   upto : (e : ℕ) → e ≤ g .events → ((L : List ℕ) × (s : List ℕ) × Sofar g here poles (nth room) e L s) ⊎ Crowded
   upto zero l =
-      let none : List ℕ = table (g .events) (λ v. darts g) in
-      inl (none, room, settle-start poles B none room (table-length (g .events) (λ v. darts g)) size (λ v k. omega (arith, table-at (g .events) (λ v. darts g) v k)))
+      let none : List ℕ = replicate (g .events) (darts g) in
+      inl (none, room, settle-start poles B none room (length-replicate (g .events) (darts g)) size (λ v k. omega (arith, getD-replicate {A = ℕ} (g .events) v (darts g) 0 k)))
   upto (suc e) l = ⊎-elim
       (λ (x : (L : List ℕ) × (s : List ℕ) × Sofar g here poles (nth room) e L s).
       let b : e < g .events = omega arith in

@@ -17,13 +17,14 @@ use Rattle.finite.proofs.Sum.{sum-cong, sum-add, δ-eq, δ-other, δ-le}
 use Rattle.drawing.specs.Drawing.{Drawing, darts, event, face, faces, cornerFace, plain, room1, pole}
 use Rattle.drawing.specs.Conditions.{EventsKnown, OuterKnown, Rings, Planar, NoneMixed, NoCircle, Drawable, Cut}
 use Rattle.finite.proofs.Extra.{bit-yes}
+use Rattle.finite.proofs.Filled.{table, table-length, table-at}
 use Rattle.drawing.proofs.Total.{room1-total}
 use Rattle.drawing.proofs.Positive.{room1-some}
 use Rattle.drawing.proofs.Apart.{labelling-no-cut}
 use Rattle.words.specs.Tables.{nth}
 use Rattle.placing.specs.Board.{Board, All, Crowd}
 use Rattle.placing.specs.Search.{Listing}
-use Rattle.placing.proofs.Pure.{table, table-length, table-at, placement-or-crowd}
+use Rattle.placing.proofs.Pure.{placement-or-crowd}
 use Rattle.placing.proofs.Labelled.{is-labelling}
 use Rattle.placing.proofs.Writes.{list-none, list-same, list-more, is-cut}
 
