@@ -8,13 +8,13 @@ use borrow.Author.Tests.{ne-eqb}
 use lib.ListN.{length}
 use Rattle.drawing.specs.Drawing.{Drawing}
 use Rattle.rules.specs.Chart.{drawing}
-use Rattle.rules.specs.Tests.{Test, short, reportRoom, Given}
-use Rattle.rules.specs.Report.{Entries, report, Outcome}
+use Rattle.rules.specs.Tests.{Test, short, tests, reportRoom, Given}
+use Rattle.rules.specs.Report.{Entries, report, Run, Outcome}
 use Rattle.rules.proofs.Chain.{given-append, given-left, given-highest}
 use Rattle.report.proofs.Laws.{writes-none}
 use Rattle.chart.specs.Form.{formTests}
 use Rattle.survey.specs.Past.{surveyTests}
-use Rattle.desk.specs.Run.{drawnTests, Run}
+use Rattle.desk.specs.Stretch.{drawnTests}
 
 -- the survey gives no number above 13
 pub survey-small : (s : List ℕ) (r : ℕ) → Given surveyTests s 0 r → r ≤ 13
@@ -41,35 +41,21 @@ silent-run ts s b n g z l = record {
   left = sym (ap (λ (x : List ℕ). x ++ b) (no-report n z l));
 }
 
--- what later tests give and write, where the earlier ones find nothing
+-- what other tests give and write, where they give the same number
+run-as : {ts : List Test} (us : List Test) (s b : List ℕ) (n w : ℕ) (b′ : List ℕ) → Given us s (length b) n → Run ts s b n w b′ → Run us s b n w b′
+run-as us s b n w b′ g R = record { given = g; entries = R .entries; allowed = R .allowed; written = R .written; left = R .left }
+
+-- later tests, where the earlier ones find nothing
 pub run-after : (ts us : List Test) (s b : List ℕ) (n w : ℕ) (b′ : List ℕ) → Given ts s (length b) 0 → Run us s b n w b′ → Run (ts ++ us) s b n w b′
-run-after ts us s b n w b′ g R = record {
-  given = given-append ts us s (length b) n g (R .given);
-  entries = R .entries;
-  allowed = R .allowed;
-  written = R .written;
-  left = R .left;
-}
+run-after ts us s b n w b′ g R = run-as (ts ++ us) s b n w b′ (given-append ts us s (length b) n g (R .given)) R
 
 -- a fault of the earlier tests
 pub run-before : (ts us : List Test) (s b : List ℕ) (n w : ℕ) (b′ : List ℕ) → n ≢ 0 → Run ts s b n w b′ → Run (ts ++ us) s b n w b′
-run-before ts us s b n w b′ z R = record {
-  given = given-left ts us s (length b) n z (R .given);
-  entries = R .entries;
-  allowed = R .allowed;
-  written = R .written;
-  left = R .left;
-}
+run-before ts us s b n w b′ z R = run-as (ts ++ us) s b n w b′ (given-left ts us s (length b) n z (R .given)) R
 
 -- with report room enough, the tests 2 to 14 give the outcome
 pub room-outcome : (s b : List ℕ) (n w : ℕ) (b′ : List ℕ) → reportRoom ≤ length b → Run (formTests ++ drawnTests) s b n w b′ → Outcome s b n w b′
-room-outcome s b n w b′ l R = record {
-  given = inr (l, R .given);
-  entries = R .entries;
-  allowed = R .allowed;
-  written = R .written;
-  left = R .left;
-}
+room-outcome s b n w b′ l R = run-as tests s b n w b′ (inr (l, R .given)) R
 
 -- and without, it is 1
 pub short-outcome : (s b : List ℕ) → length b < reportRoom → Outcome s b 1 0 b

@@ -8,10 +8,10 @@ use Rattle.drawing.specs.Drawing.{darts}
 use Rattle.drawing.specs.Conditions.{Rings, Labelling, Cut}
 use Rattle.drawing.proofs.Apart.{labelling-no-cut}
 use Rattle.rules.specs.Chart.{drawing}
-use Rattle.rules.specs.Report.{report}
+use Rattle.rules.specs.Report.{report, Run}
 use Rattle.report.specs.Headers.{header}
 use Rattle.report.proofs.Laws.{labels-report, labels-length}
-use Rattle.desk.specs.Run.{lastTests, Run}
+use Rattle.desk.specs.Stretch.{lastTests}
 
 -- a report of which a part was lent and left as it was
 pub left-whole : (b ys : List ℕ) (k : ℕ) → ys ≡ take k (drop 8 b) → take 8 b ++ (ys ++ drop k (drop 8 b)) ≡ b

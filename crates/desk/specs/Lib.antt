@@ -1,1 +1,1 @@
-pub mod Run
+pub mod Stretch

@@ -1,6 +1,6 @@
 -- The report: its bytes, what a run of the test leaves, and its reader (document 01, "The report" and below the number table). Assumes nothing.
 --   writes, entry, report      what is written
---   Entries, Outcome           what a run of the test leaves
+--   Entries, Run, Outcome      what a run of some tests leaves, and of all: the test
 --   wellFormed, form, body, entries      the reader
 use mathlib.Core.Path.{_≡_}
 use mathlib.Core.Bool.{Bool, cond, _&&_, _||_}
@@ -13,7 +13,7 @@ use Rattle.drawing.specs.Drawing.{Drawing, mixedEvents}
 use Rattle.drawing.specs.Conditions.{Circle, Labelling, Cut}
 use Rattle.rules.specs.Words.{u16, words, bytes}
 use Rattle.rules.specs.Chart.{drawing}
-use Rattle.rules.specs.Tests.{tests, Given}
+use Rattle.rules.specs.Tests.{Test, tests, Given}
 
 -- ---- what is written
 
@@ -39,13 +39,17 @@ Entries g n l =
     (cond (eqb n 13) (Circle g l × LowestFirst l)
     (cond (eqb n 14) (Cut g l) (l ≡ []))))
 
--- a run of the test on the chart s and the lent report r: the number n, w bytes written, and the report r′ afterwards. "Bytes beyond stay."
-pub record Outcome (s r : List ℕ) (n w : ℕ) (r′ : List ℕ) : Type 0 where
-  pub given : Given tests s (length r) n
+-- a run of the tests ts, in order, on the chart s and the lent report r: the number n, w bytes written, and the report r′ afterwards. "Bytes beyond stay."
+pub record Run (ts : List Test) (s r : List ℕ) (n w : ℕ) (r′ : List ℕ) : Type 0 where
+  pub given : Given ts s (length r) n
   pub entries : List ℕ
   pub allowed : Entries (drawing s) n entries
   pub written : w ≡ length (report n entries)
   pub left : r′ ≡ report n entries ++ drop w r
+
+-- the test runs them all
+abbrev pub Outcome : List ℕ → List ℕ → ℕ → ℕ → List ℕ → Type 0
+Outcome s r n w r′ = Run tests s r n w r′
 
 -- ---- the reader: "checks that there are at least 8 bytes, the mark, version, a result of 0, 12, 13 or 14, and the exact length"
 

@@ -4,7 +4,7 @@ use native.Mathlib.Omega.{arith}
 use borrow.Author.Needs.{needs}
 use Rattle.chart.specs.Form.{formTests}
 use Rattle.survey.proofs.Entry.{form-none, form-shape, form-length, form-formed, form-few}
-use Rattle.desk.specs.Run.{drawnTests}
+use Rattle.desk.specs.Stretch.{drawnTests}
 use Rattle.desk.proofs.Running.{form-small, silent-run, run-before, run-after, room-outcome, short-outcome}
 use Rattle.desk.proofs.test_chart.Statement.{statement}
 use Rattle.desk.proofs.test_chart.Tie as tie

@@ -8,7 +8,7 @@ use borrow.Author.Needs.{needs}
 use Rattle.rules.specs.Tests.{Given}
 use Rattle.survey.specs.Past.{surveyTests}
 use Rattle.survey.proofs.Passing.{survey-clear}
-use Rattle.desk.specs.Run.{lastTests}
+use Rattle.desk.specs.Stretch.{lastTests}
 use Rattle.desk.proofs.Running.{survey-small, silent-run, run-before, run-after}
 use Rattle.desk.proofs.test_drawn.Statement.{statement}
 use Rattle.desk.proofs.test_drawn.Tie as tie
