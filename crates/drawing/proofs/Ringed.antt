@@ -4,10 +4,10 @@
 --   Round g seen v            the marked darts of the event v are one walk and back
 --   Ringed g seen v           each event below v that has a dart has such a round, and no other event has a marked dart
 use mathlib.Core.Path.{_≡_, refl, sym, ap, _∙_}
-use mathlib.Core.Logic.{_≢_, _⊎_, inl, inr, ⊎-elim}
+use mathlib.Core.Logic.{_≢_, _↔_, _⊎_, inl, inr, ⊎-elim}
 use mathlib.Core.List.{List}
 use Prim.Native.Nat.{ℕ, suc, _+_, _-_, _<_, _≤_}
-use native.Mathlib.Decide.{ℕ-discrete, decLe}
+use native.Mathlib.Decide.{ℕ-discrete, decLe, decLt}
 use native.Mathlib.Omega.{arith}
 use lib.ListN.{length, getD, set, length-set}
 use lib.Seq.{getD-set-same, getD-set-other}
@@ -17,7 +17,7 @@ use Rattle.finite.proofs.Sum.{sum-change, δ-eq, δ-other}
 use Rattle.finite.proofs.Perm.{inj-le}
 use Rattle.finite.proofs.Orbit.{cycle, iter-add, iter-inj}
 use Rattle.drawing.specs.Drawing.{Drawing, darts, event, after}
-use Rattle.drawing.specs.Conditions.{Rings}
+use Rattle.drawing.specs.Conditions.{EventsKnown, Rings}
 use Rattle.drawing.proofs.Rounds.{Kept, goes-inside, goes-there, after-inj}
 
 abbrev pub Marked : List ℕ → ℕ → Type 0
@@ -254,6 +254,13 @@ module _ (g : Drawing) (K : Kept g) where
                       ∙ ap (iter p j) (sym (iter-add p (m - i) i x) ∙ ap (λ (k : ℕ). iter p k x) split ∙ W .back) ∙ t .2,
                 )
           ]
+
+  -- once round each event, with nothing met twice: every dart is met exactly if each event's darts are one ring
+  pub rings-exactly : (seen : List ℕ) → EventsKnown g → Ringed g seen (g .events) → ((d : ℕ) → d < darts g → Marked seen d) ↔ Rings g
+  rings-exactly seen E I = (
+    ringed-all seen (g .events) I,
+    λ R d l. elim (decLt (getD seen d 0) 1) [ yes z ↦ absurd (refuse-missed seen (g .events) I d l (E d l) z R) | no z ↦ omega arith ],
+  )
 
 -- no mark yet
 pub ringed-none : (g : Drawing) (seen : List ℕ) → length seen ≡ darts g → ((e : ℕ) → getD seen e 0 ≡ 0) → Ringed g seen 0

@@ -15,7 +15,7 @@ use Rattle.finite.proofs.Yes.{says-as, says-equal, says-lt}
 use Rattle.drawing.specs.Drawing.{Drawing, darts, event, after}
 use Rattle.drawing.specs.Conditions.{EventsKnown, Rings}
 use Rattle.drawing.proofs.Rounds.{Keeps, Kept}
-use Rattle.drawing.proofs.Ringed.{Marked, Traced, Ringed, mark-here, trace-step, trace-first, ring-closed, refuse-open, refuse-missed, ringed-skip, ringed-all, bare}
+use Rattle.drawing.proofs.Ringed.{Marked, Traced, Ringed, mark-here, trace-step, trace-first, ring-closed, refuse-open, ringed-skip, rings-exactly, bare}
 use Rattle.rules.specs.Chart.{drawing}
 use Rattle.words.specs.Tables.{nth}
 use Rattle.chart.specs.Shape.{Shape}
@@ -106,7 +106,6 @@ lowest-done seen d low I h =
 -- every event has its round, and then the marks of all tell
 pub rings-all : (g : Drawing) → Kept g → EventsKnown g → (seen : List ℕ) → Ringed g seen (g .events)
     → (r : Bool) → Says r ((d : ℕ) → d < length seen → Marked seen d) → Says r (Rings g)
-rings-all g K E seen I true every = ringed-all g K seen (g .events) I (λ d l. every d (omega (arith, I .size)))
-rings-all g K E seen I false none = λ R. none (λ d l.
-    let k : d < darts g = omega (arith, I .size) in
-    elim (decLt (getD seen d 0) 1) [ yes z ↦ absurd (refuse-missed g K seen (g .events) I d k (E d k) z R) | no z ↦ omega arith ])
+rings-all g K E seen I r =
+    let exactly = rings-exactly g K seen E I in
+    says-as r (λ every. exactly .0 (λ d l. every d (omega (arith, I .size)))) (λ R d l. exactly .1 R d (omega (arith, I .size)))
