@@ -3,7 +3,7 @@ use mathlib.Core.Path.{_≡_, refl, sym}
 use mathlib.Core.Bool.{Bool, true, false, not}
 use mathlib.Core.Logic.{_≢_, inl, inr}
 use mathlib.Core.List.{List, [], _∷_, _++_}
-use Prim.Native.Nat.{ℕ, _≤_, max}
+use Prim.Native.Nat.{ℕ, _≤_, min, max}
 use native.Mathlib.Omega.{arith}
 use Rattle.finite.specs.Says.{Says}
 use Rattle.finite.proofs.Yes.{says-still, says-unless}
@@ -27,6 +27,19 @@ pub given-highest : (ts : List Test) (s : List ℕ) (r n : ℕ) → Given ts s r
 given-highest [] s r n g = omega (arith, g)
 given-highest (t ∷ ts) s r n (inl g) = omega (arith, g .1)
 given-highest (t ∷ ts) s r n (inr g) = omega (arith, given-highest ts s r n (g .1))
+
+-- the lowest number of a test of a list
+abbrev pub lowestNumber : List Test → ℕ
+lowestNumber [] = 0
+lowestNumber (t ∷ []) = number t
+lowestNumber (t ∷ u ∷ us) = min (number t) (lowestNumber (u ∷ us))
+
+pub given-lowest : (ts : List Test) (s : List ℕ) (r n : ℕ) → n ≢ 0 → Given ts s r n → lowestNumber ts ≤ n
+given-lowest [] s r n z g = omega arith
+given-lowest (t ∷ []) s r n z (inl g) = omega (arith, g .1)
+given-lowest (t ∷ []) s r n z (inr g) = absurd (z (g .1))
+given-lowest (t ∷ u ∷ us) s r n z (inl g) = omega (arith, g .1)
+given-lowest (t ∷ u ∷ us) s r n z (inr g) = omega (arith, given-lowest (u ∷ us) s r n z (g .1))
 
 -- 0 is no test's number
 pub number-some : (t : Test) → number t ≢ 0

@@ -3,3 +3,4 @@ pub mod Chain
 pub mod Unique
 pub mod Trying
 pub mod Table
+pub mod Overlong

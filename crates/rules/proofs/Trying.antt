@@ -1,21 +1,22 @@
 -- Every test tried by computing, with the proof of what it answers; so a number given, an allowed report and a verdict are shown by one computed test.
 -- Assumes nothing.
 use mathlib.Core.Path.{_≡_, refl, sym, subst}
-use mathlib.Core.Logic.{_⊎_, inl, inr}
+use mathlib.Core.Logic.{_≢_, _⊎_, inl, inr}
 use mathlib.Core.Bool.{Bool, false, not, _&&_}
 use mathlib.Core.List.{List, [], _∷_, _++_}
 use mathlib.Core.Option.{Option, none, some}
-use Prim.Native.Nat.{ℕ, _+_, _*_}
+use Prim.Native.Nat.{ℕ, _+_}
+use native.Mathlib.Omega.{arith}
 use lib.Dec.{T, eqb, eqb→eq, T-not}
-use lib.ListN.{length, take, drop}
-use Rattle.drawing.specs.Drawing.{Drawing, darts, arrows, event, tail, head, faces, changes, mixedEvents}
+use lib.ListN.{length, drop}
+use Rattle.drawing.specs.Drawing.{Drawing, darts, arrows, event, tail, head, faces, changes}
 use Rattle.drawing.proofs.Deciders.{rings?, circle?, labelling?, cut?, known, joined?, joined-law, parted?, parted-law, levels, climb?, climb-law}
 use Rattle.drawing.proofs.Apart.{labelling-no-cut}
 use Rattle.finite.proofs.Decide.{isYes, is-yes, both-left, both-right, map?, _×?_, _⊎?_, ¬?, T?, cond?, eq?, le?, lt?, all?, same?, lowest-first?}
-use Rattle.rules.specs.Words.{u16}
-use Rattle.rules.specs.Chart.{drawing, eventsIn, arrowsIn}
-use Rattle.rules.specs.Tests.{reportRoom, Test, short, mark, version, counts, size, unknown, own, outer, order, parted, crossing, mixing, circle, noRoom, number, Passes, Given, tests, faults}
-use Rattle.rules.specs.Report.{Entries, Outcome, report, resultIn, entries}
+use Rattle.rules.specs.Chart.{drawing}
+use Rattle.rules.specs.Tests.{Test, number, Passes, Given, tests, faults}
+use Rattle.rules.specs.Tests.{short, mark, version, counts, size, unknown, own, outer, order, parted, crossing, mixing, circle, noRoom}
+use Rattle.rules.specs.Report.{Form, good, bad, Entries, Outcome, report, resultIn}
 use Rattle.rules.specs.Judge.{Verdict, chart, J, fits, Either, Deserves, Judged}
 use Rattle.rules.proofs.Bytes.{darts-even}
 
@@ -25,9 +26,9 @@ unfoldable pub entries? : (g : Drawing) (n : ℕ) (l : List ℕ) → Dec (Entrie
 unfolding circle? labelling? cut?
 entries? g n l =
     cond? (eqb n 0) (labelling? g l)
-    (cond? (eqb n 12) (same? l (take 1 (mixedEvents g)))
+    (cond? (eqb n 12) (same? l _)
     (cond? (eqb n 13) (circle? g l ×? lowest-first? l)
-    (cond? (eqb n 14) (cut? g l) (same? l []))))
+    (cond? (eqb n 14) (cut? g l) (same? l _))))
 
 abbrev pub either? : {P : Type 0} → Dec P → (a b j : ℕ) → Dec (Either P a b j)
 either? d a b j = (d ×? eq? j a) ⊎? (¬? d ×? eq? j b)
@@ -36,8 +37,26 @@ unfoldable pub deserves? : (g : Drawing) (r : List ℕ) (j : ℕ) → Dec (Deser
 unfolding labelling? cut?
 deserves? g r j =
     cond? (fits g r)
-    (cond? (eqb (resultIn r) 0) (either? (labelling? g (entries r)) 0 3 j) (either? (cut? g (entries r)) 1 4 j))
-    (eq? j 2)
+    (cond? (eqb (resultIn r) 0) (either? (labelling? g _) _ _ j) (either? (cut? g _) _ _ j))
+    (eq? j _)
+
+-- ---- what the reader answers
+
+pub good-eq : {m n k l : ℕ} → (m ≡ k) × (n ≡ l) → good m n ≡ good k l
+good-eq {m} {n} {k} {l} h = let p : m ≡ k = h .0 in let q : n ≡ l = h .1 in cc
+
+pub eq-good : {m n k l : ℕ} → good m n ≡ good k l → (m ≡ k) × (n ≡ l)
+eq-good p = (cc, cc)
+
+pub good≢bad : {m n : ℕ} → good m n ≢ bad
+good≢bad p = let z : _≡_ {A = ℕ} 0 1 = cc in omega arith
+
+unfoldable pub form? : (f g : Form) → Dec (f ≡ g)
+unfolding eq?
+form? (good m n) (good k l) = map? good-eq eq-good (eq? m k ×? eq? n l)
+form? (good m n) bad = no good≢bad
+form? bad (good m n) = no (λ p. good≢bad (sym p))
+form? bad bad = yes refl
 
 -- ---- one test, tried by computing, with a list that may show it: a labelling, a circle, a cut
 
@@ -62,14 +81,14 @@ says-law : {P : ℕ → Type 0} (o : Option ((n : ℕ) × P n)) (n : ℕ) → T 
 says-law none n t = absurd t
 says-law {P} (some q) n t = subst P (eqb→eq (q .0) n t) (q .1)
 
--- a chart has the number n, and l are allowed entries
-pub record Right (s : List ℕ) (n : ℕ) (l : List ℕ) : Type 0 where
-  pub number-given : Given tests s 6152 n
+-- a chart has the number n, with r bytes of report lent, and l are allowed entries
+pub record Right (s : List ℕ) (r n : ℕ) (l : List ℕ) : Type 0 where
+  pub number-given : Given tests s r n
   pub allowed : Entries (drawing s) n l
 
-pub outcome : (s r : List ℕ) (n : ℕ) (l : List ℕ) → Right s n l → length r ≡ 6152 → Outcome s r n (length (report n l)) (report n l ++ drop (length (report n l)) r)
-outcome s r n l h e = record {
-  given = subst (λ (k : ℕ). Given tests s k n) (sym e) (h .number-given);
+pub outcome : (s r : List ℕ) (n : ℕ) (l : List ℕ) → Right s (length r) n l → Outcome s r n (length (report n l)) (report n l ++ drop (length (report n l)) r)
+outcome s r n l h = record {
+  given = h .number-given;
   entries = l;
   allowed = h .allowed;
   written = refl;
@@ -78,13 +97,13 @@ outcome s r n l h e = record {
 
 tried : (t : Test) (s : List ℕ) (r : ℕ) (l : List ℕ) → Option (Dec (Passes t s r))
 unfolding le? eq? all? rings? circle? labelling? cut? known joined? parted? levels
-tried short s r l = some (le? reportRoom r)
-tried mark s r l = some (le? 11 (length s) ×? same? (take 3 s) (69 ∷ 86 ∷ 67 ∷ []))
-tried version s r l = some (eq? (u16 s 3) 1)
+tried short s r l = some (le? _ _)
+tried mark s r l = some (le? _ _ ×? same? _ _)
+tried version s r l = some (eq? _ _)
 tried counts s r l =
     some (map? (λ h. (h .0, h .1 .0, h .1 .1 .0, h .1 .1 .1)) (λ h. (h .0, (h .1, (h .2, h .3))))
-    (le? 2 (eventsIn s) ×? le? (eventsIn s) 1024 ×? le? 1 (arrowsIn s) ×? le? (arrowsIn s) 3072))
-tried size s r l = some (eq? (length s) (11 + 8 * arrowsIn s))
+    (le? _ _ ×? le? _ _ ×? le? _ _ ×? le? _ _))
+tried size s r l = some (eq? _ _)
 tried unknown s r l = some (all? (darts (drawing s)) _ (λ d. lt? (event (drawing s) d) (drawing s .events)))
 tried own s r l = some (all? (arrows (drawing s)) _ (λ a. ¬? (eq? (tail (drawing s) a) (head (drawing s) a))))
 tried outer s r l = some (lt? (drawing s .outer) (darts (drawing s)))
@@ -108,16 +127,16 @@ unfolding tried
 given [] s r l = some (0, refl)
 given (t ∷ ts) s r l = let rest = given ts s r l in next (number t) (tried t s r l) rest
 
-unfoldable pub right : List ℕ → ℕ → List ℕ → Bool
+unfoldable pub right : List ℕ → (r n : ℕ) → List ℕ → Bool
 unfolding given entries?
-right s n l = says (given tests s 6152 l) n && isYes (entries? (drawing s) n l)
+right s r n l = says (given tests s r l) n && isYes (entries? (drawing s) n l)
 
-pub right-law : (s : List ℕ) (n : ℕ) (l : List ℕ) → T (right s n l) → Right s n l
+pub right-law : (s : List ℕ) (r n : ℕ) (l : List ℕ) → T (right s r n l) → Right s r n l
 unfolding right
-right-law s n l t =
-    let a = says (given tests s 6152 l) n in
+right-law s r n l t =
+    let a = says (given tests s r l) n in
     let d = entries? (drawing s) n l in
-    record { number-given = says-law (given tests s 6152 l) n (both-left a (isYes d) t); allowed = is-yes d (both-right a (isYes d) t) }
+    record { number-given = says-law (given tests s r l) n (both-left a (isYes d) t); allowed = is-yes d (both-right a (isYes d) t) }
 
 -- the judge, on the chart s and the report r; l may show a circle
 unfoldable pub fair : List ℕ → List ℕ → List ℕ → Verdict → Bool

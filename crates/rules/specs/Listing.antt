@@ -1,4 +1,6 @@
 -- The listing of a chart, given the number and the entries of its report (document 01, "The listing"). Assumes nothing.
+--   inputRoom                how much of standard input the listing program reads
+--   saying, listing          the words of a number; the listing's text
 use Prim.Native.Nat.{ℕ, zero, suc, _+_, _/_, _%_}
 use Prim.Native.Char.{code}
 use Prim.Native.String as Str
@@ -10,6 +12,10 @@ use lib.ListN.{getD}
 use Rattle.finite.specs.Sums.{below}
 use Rattle.drawing.specs.Drawing.{Drawing, darts, event, pole}
 use Rattle.drawing.specs.Conditions.{label}
+
+-- "24,588 bytes at most (one over the limit, so that an overlong chart gets 5)"
+abbrev pub inputRoom : ℕ
+inputRoom = 24588
 
 unfoldable pub ascii : String → List ℕ
 ascii Str.[] = []
