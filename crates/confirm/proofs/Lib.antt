@@ -1,1 +1,3 @@
 pub mod Running
+pub mod Settled
+pub mod Demanded

@@ -6,16 +6,16 @@ use Prim.Native.Nat.{ℕ, _≤_}
 use lib.ListN.{length, take}
 use Rattle.rules.specs.Tests.{Given, faults, reportRoom}
 use Rattle.rules.specs.Report.{Outcome}
-use Rattle.rules.specs.Judge.{J, Judged}
-use Rattle.judge.specs.Verdicts.{verdictOf}
+use Rattle.judge.specs.Verdicts.{Answered}
 use Rattle.judge.specs.declared.Verdict.{Verdict}
+use Rattle.judge.specs.declared.Verdict.the-variants.{LabelsHold, CutHolds}
 
--- the chart s, the report r that was lent and r′ that it became, and the judge's verdict v on the stretch written
-pub record Confirmed (s r r′ : List ℕ) (v : Verdict) : Type 0 where
+-- the chart s, the report r that was lent and r′ that it became, and the judge's answer a to the stretch written
+pub record Confirmed (s r r′ : List ℕ) (a : Verdict) : Type 0 where
   pub number : ℕ
   pub written : ℕ
   pub outcome : Outcome s r number written r′
   -- "The report it reads is the stretch written, not the whole lent room."
-  pub judged : Judged s (take written r′) (verdictOf v)
+  pub answered : Answered s (take written r′) a
   -- "our own test's report is always confirmed"
-  pub confirmed : Given faults s 0 0 → reportRoom ≤ length r → (verdictOf v ≡ J 0) ⊎ (verdictOf v ≡ J 1)
+  pub confirmed : Given faults s 0 0 → reportRoom ≤ length r → (a ≡ LabelsHold) ⊎ (a ≡ CutHolds)

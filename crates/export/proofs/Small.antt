@@ -43,7 +43,7 @@ either-small : (P : Type 0) (a b j : ℕ) → a ≤ 4 → b ≤ 4 → Either P a
 either-small P a b j h k (inl p) = omega (arith, p .1)
 either-small P a b j h k (inr p) = omega (arith, p .1)
 
-deserves-small : (g : Drawing) (r : List ℕ) (j : ℕ) → Deserves g r j → j ≤ 4
+pub deserves-small : (g : Drawing) (r : List ℕ) (j : ℕ) → Deserves g r j → j ≤ 4
 deserves-small g r j = go (Labelling g (entries r)) (Cut g (entries r)) (fits g r) (eqb (resultIn r) 0)
   where
     go : (P Q : Type 0) (a b : Bool) → cond a (cond b (Either P 0 3 j) (Either Q 1 4 j)) (j ≡ 2) → j ≤ 4

@@ -1,1 +1,2 @@
 pub mod Deserving
+pub mod Answers

@@ -7,11 +7,10 @@ ghost use Rattle.drawing.specs.Conditions.{Labelling, Cut};
 ghost use Rattle.rules.specs.Words.{words as wordsAt};
 ghost use Rattle.rules.specs.Chart.{drawing};
 ghost use Rattle.rules.specs.Tests.{Given};
-ghost use Rattle.rules.specs.Judge.{Judged};
 ghost use Rattle.chart.specs.Form.{formTests};
 ghost use Rattle.chart.specs.Held.{Faced};
 ghost use Rattle.survey.specs.Past.{Formed, Clear};
-ghost use Rattle.judge.specs.Verdicts.{verdictOf, Reported};
+ghost use Rattle.judge.specs.Verdicts.{Answered, Reported};
 
 // The chart's refusal, with its number: a fault of the file, 2 to 8, or of the drawing in it, 9 to 13.
 pub enum Refusal {
@@ -154,7 +153,7 @@ fn judge_drawn(
 ) -> Verdict
     requires { ⌜ Formed (now chart) n v × Given formTests (now chart) 0 0 ⌝ }
     requires { ⌜ (length (now here) ≡ n) × ((length (now first) ≡ v) × (length (now list) ≡ v)) ⌝ }
-    ensures { λ r. ⌜ Judged (now (chart .entry)) (now (report .entry)) (verdictOf r) ⌝ }
+    ensures { λ r. ⌜ Answered (now (chart .entry)) (now (report .entry)) r ⌝ }
 {
     let found = survey::survey_all(chart, n, v, here, first, list);
     let fault = found.fault;
@@ -166,7 +165,7 @@ fn judge_drawn(
 
 // The judge: the chart's fault first, then what the report deserves.
 pub fn judge(chart: &[u8], report: &[u8]) -> Verdict
-    ensures { λ r. ⌜ Judged (now (chart .entry)) (now (report .entry)) (verdictOf r) ⌝ }
+    ensures { λ r. ⌜ Answered (now (chart .entry)) (now (report .entry)) r ⌝ }
 {
     let fault = chart::form_fault(chart);
     if 1 <= fault {

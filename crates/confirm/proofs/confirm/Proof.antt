@@ -1,4 +1,5 @@
 -- `confirm::confirm` meets its contract: the stretch written lies within the report, and the judge confirms it. Assumes nothing.
+use native.Mathlib.Omega.{arith}
 use borrow.Author.Needs.{needs}
 use Rattle.confirm.proofs.Running.{stretch-within, run-confirmed}
 use Rattle.confirm.proofs.confirm.Statement.{statement}
@@ -14,7 +15,7 @@ part-judge-start : tie.Need-part-judge-start
 part-judge-start c = search needs
 
 part-judge-end : tie.Need-part-judge-end
-part-judge-end c = stretch-within _ _ _ _ _ (c .before .before .before .test-chart .ensures)
+part-judge-end c = omega (arith, stretch-within _ _ _ _ _ (c .before .before .before .test-chart .ensures))
 
 judge-requires : tie.Need-judge-requires
 judge-requires c κs = search needs

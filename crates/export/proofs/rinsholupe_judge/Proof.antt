@@ -8,7 +8,7 @@ judge-requires : tie.Need-judge-requires
 judge-requires c κs = search needs
 
 verdict-number-requires : tie.Need-verdict-number-requires
-verdict-number-requires c κs = verdict-small _ _ _ (c .judge .ensures)
+verdict-number-requires c κs = verdict-small _ _ _ (c .judge .ensures .judged)
 
 returns : tie.Need-returns
 returns c = search needs

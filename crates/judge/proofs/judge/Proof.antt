@@ -1,12 +1,9 @@
 -- `judge::judge` meets its contract: a fault of the form, or the rest. Assumes nothing.
-use mathlib.Core.Path.{refl}
-use mathlib.Core.Logic.{_≢_, inl}
+use mathlib.Core.Logic.{_≢_}
 use native.Mathlib.Omega.{arith}
 use borrow.Author.Needs.{needs}
-use Rattle.rules.proofs.Chain.{given-left}
-use Rattle.chart.specs.Form.{formTests}
-use Rattle.survey.specs.Past.{surveyTests}
 use Rattle.survey.proofs.Entry.{form-none, form-shape, form-length, form-formed, form-few}
+use Rattle.judge.proofs.Answers.{refused-file}
 use Rattle.judge.proofs.judge.Statement.{statement}
 use Rattle.judge.proofs.judge.Tie as tie
 
@@ -16,7 +13,7 @@ form-fault-requires c κs = search needs
 returns : tie.Need-returns
 returns c =
     let some : c .before .form-fault .result ≢ 0 = λ e. omega (arith, c .if1 .taken) in
-    inl (_, some, given-left formTests surveyTests _ 0 _ some (c .before .form-fault .ensures), refl)
+    refused-file _ _ _ some (c .before .form-fault .ensures)
 
 dart-count-requires : tie.Need-dart-count-requires
 dart-count-requires c κs = form-shape (c .before .before .before .before .args .chart .now) (c .before .form-fault .result) (omega (arith, c .if1 .left)) (c .before .form-fault .ensures)

@@ -1,6 +1,6 @@
 -- `judge::judge_drawn` meets its contract: a fault of the drawing, or what the report deserves. Assumes nothing.
-use mathlib.Core.Path.{_≡_, refl, subst}
-use mathlib.Core.Logic.{_≢_, inl, inr}
+use mathlib.Core.Path.{_≡_, subst}
+use mathlib.Core.Logic.{_≢_}
 use native.Mathlib.Omega.{arith}
 use borrow.Author.Needs.{needs}
 use Rattle.rules.specs.Tests.{Given}
@@ -8,6 +8,7 @@ use Rattle.rules.proofs.Chain.{given-append}
 use Rattle.chart.specs.Form.{formTests}
 use Rattle.survey.specs.Past.{surveyTests}
 use Rattle.survey.proofs.Passing.{survey-clear}
+use Rattle.judge.proofs.Answers.{refused-drawn, deserved}
 use Rattle.judge.proofs.judge_drawn.Statement.{statement}
 use Rattle.judge.proofs.judge_drawn.Tie as tie
 
@@ -27,7 +28,7 @@ returns : tie.Need-returns
 returns c =
     let p = c .before .before .before .before .before .before .before .before .before .before .before .before .before .before .before .before .pre in
     let some : c .before .before .before .before .before .before .before .survey-all .result .fault ≢ 0 = λ e. omega (arith, c .if1 .taken) in
-    inl (_, some, given-append formTests surveyTests _ 0 _ (p .0 .1) (c .before .before .before .before .before .before .before .survey-all .ensures .given), refl)
+    refused-drawn _ _ _ some (p .0 .1) (c .before .before .before .before .before .before .before .survey-all .ensures .given)
 
 weigh-requires : tie.Need-weigh-requires
 weigh-requires c κs =
@@ -50,8 +51,7 @@ returns-2 c =
     let p = c .before .before .before .before .before .before .before .before .before .before .before .before .before .before .before .before .before .before .pre in
     let S = c .before .before .before .before .before .before .before .before .before .survey-all .ensures in
     let z : c .before .before .before .before .before .before .before .before .before .survey-all .result .fault ≡ 0 = omega (arith, c .before .before .if1 .left) in
-    let w = c .weigh .ensures in
-    inr (w .0, given-append formTests surveyTests _ 0 0 (p .0 .1) (subst (Given surveyTests _ 0) z (S .given)), w .1, w .2)
+    deserved _ _ _ (given-append formTests surveyTests _ 0 0 (p .0 .1) (subst (Given surveyTests _ 0) z (S .given))) (c .weigh .ensures)
 
 pub judge-drawn-spec : {M : Type 1} → statement M
 judge-drawn-spec =
