@@ -1,4 +1,7 @@
 -- What a listing determines: how many bytes it takes at most, and, but for a labelling, a circle and a cut, all of it. Assumes nothing.
+--   listed-fits                      the text lies within the bytes that are lent
+--   short-unique, told-unique        one answer with too little room; one number with room, and but for the exceptions one text
+--   listed-unique                    both
 use mathlib.Core.Path.{_≡_, sym, ap, ap₂, subst, _∙_}
 use mathlib.Core.Bool.{not}
 use mathlib.Core.List.{List, _++_}
@@ -43,3 +46,8 @@ told-unique s o a b j k p q =
           let long : j ≡ k = p .size ∙ ap length same ∙ sym (q .size) in
           (long, p .text ∙ ap₂ (λ (x : List ℕ) (i : ℕ). x ++ drop i o) same long ∙ sym (q .text)),
     )
+
+pub listed-unique : (s o a b : List ℕ) (j k : ℕ) (p : Listed s o a j) (q : Listed s o b k)
+    → (length o < listingRoom → (j ≡ k) × (a ≡ b))
+    × ((h : listingRoom ≤ length o) → (p .full h .number ≡ q .full h .number) × (T (not (free (p .full h .number))) → (j ≡ k) × (a ≡ b)))
+listed-unique s o a b j k p q = (λ h. short-unique s o a b j k h p q, λ h. told-unique s o a b j k (p .full h) (q .full h))

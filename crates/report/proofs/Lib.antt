@@ -1,3 +1,4 @@
 pub mod Good
 pub mod Laws
 pub mod Round
+pub mod Settled

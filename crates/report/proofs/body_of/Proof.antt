@@ -2,6 +2,7 @@
 use mathlib.Core.Path.{_≡_, refl, sym, ap, _∙_}
 use mathlib.Core.Bool.{true, false}
 use Prim.Native.Nat.{ℕ, _+_, _-_, _≤_}
+use native.Mathlib.Nat.{sub-self}
 use native.Mathlib.Omega.{arith}
 use borrow.Author.Needs.{needs}
 use lib.ListN.{length, drop, length-drop}
@@ -47,7 +48,8 @@ returns-2 c =
     let s = c .before .before .before .before .args .report in
     let bad : wellFormed (s .now) ≡ false = sym (c .before .before .well-formed .ensures) ∙ c .before .if1 .left in
     let place : 0 + s .ptr .1 ≡ s .ptr .1 + 0 = omega arith in
-    rw bad (refl, ap (λ (o : ℕ). (s .ptr .0, o)) place)
+    -- every empty part has the bytes; only this one has the place
+    rw bad (search (needs, sub-self), ap (λ (o : ℕ). (s .ptr .0, o)) place)
 
 pub body-of-spec : {M : Type 1} → statement M
 body-of-spec =
