@@ -1,11 +1,15 @@
-//! The files of the folder `charts/`: C1 to C11 as document 01 gives them.
+//! The files of the folder `charts/`: C1 to C11 as document 01 gives them, and a chart at the limit of length.
 //!
 //! `cN.chart` is the text form, `cN.evc` the chart file, `cN.txt` its listing; `c11-a.evr` and `c11-b.evr` are the
-//! reports that the judge reads on C8, `c11-a.verdict` and `c11-b.verdict` what it says.
+//! reports that the judge reads on C8, `c11-a.verdict` and `c11-b.verdict` what it says. `longest.evc` is a chart as
+//! long as one may be, `overlong.evc` the same with one byte more, `longest.txt` and `overlong.txt` their listings.
 
+use crate::chart::{MOST_ARROWS, MOST_BYTES};
 use crate::examine::examine;
 use crate::judge::judge;
 use crate::listing::listing;
+use crate::rng::Rng;
+use crate::sketch::Sketch;
 use crate::table;
 use crate::text::print;
 use crate::unique::{Unique, unique};
@@ -44,5 +48,35 @@ pub fn files() -> Vec<(String, Vec<u8>)> {
         files.push((format!("c11-{letter}.verdict"), format!("{}\n", judge(&c8, &report)).into_bytes()));
         files.push((format!("c11-{letter}.evr"), report));
     }
+    let longest = longest();
+    let mut overlong = longest.clone();
+    overlong.push(0);
+    for (name, bytes) in [("longest", longest), ("overlong", overlong)] {
+        files.push((format!("{name}.txt"), listing(&bytes).into_bytes()));
+        files.push((format!("{name}.evc"), bytes));
+    }
     files
+}
+
+/// How many arrows enter the middle of the longest chart, and how many leave it, before they are doubled.
+const ENTERING: usize = 12;
+const LEAVING: usize = 15;
+
+/// A chart of 3,072 arrows that is accepted, with one listing only: sources and sinks round one event, each joined to
+/// it by many arrows side by side, so that each has one corner outside of the gaps between them.
+fn longest() -> Vec<u8> {
+    let mut sketch = Sketch::new();
+    for _ in 0..LEAVING {
+        sketch.dead_end(1, true);
+    }
+    for _ in 1..ENTERING {
+        sketch.dead_end(1, false);
+    }
+    for arrow in 0..MOST_ARROWS - sketch.arrows() {
+        sketch.double(2 * (arrow % (ENTERING + LEAVING)));
+    }
+    let bytes = sketch.shuffled(&mut Rng::new(20_261_115)).bytes();
+    let outcome = examine(&bytes);
+    assert!(bytes.len() == MOST_BYTES && outcome.number() == 0 && unique(&bytes, &outcome) == Unique::Yes);
+    bytes
 }

@@ -1,7 +1,6 @@
 // Reads charts on standard input, each with a flag and its length in 16 bits before it, and writes a line for each: the number that the test
 // gives, the judge's verdict on the report that the test wrote, and under the flag 1 that report's length and entries.
 use libc::STDERR_FILENO;
-use libc::STDIN_FILENO;
 use libc::STDOUT_FILENO;
 ghost use Prim.Native.Nat.{_≤_, _<_};
 ghost use lib.ListN.{length};
@@ -159,7 +158,7 @@ fn say_all(input: &[u8]) {
 
 fn main() {
     let mut input = [0u8; 131072];
-    let came = streams::read_all(STDIN_FILENO, &mut input);
+    let came = streams::read_all(&mut input);
     let streams::Input::Bytes(n) = came else {
         os::fail(b"charts: standard input");
         return;

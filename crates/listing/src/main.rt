@@ -1,17 +1,16 @@
 // Reads a chart on standard input and writes its listing to standard output.
-use libc::STDIN_FILENO;
-use libc::STDOUT_FILENO;
 
 fn main() {
-    // One byte over the limit, so that an overlong chart gets 5.
-    let mut chart = [0u8; 24588];
-    let came = streams::read_all(STDIN_FILENO, &mut chart);
-    let streams::Input::Bytes(n) = came else {
-        os::fail(b"listing: standard input");
-        return;
-    };
+    let mut room = [0u8; 24588];
     let mut text = [0u8; 36864];
-    if !streams::write_listing(STDOUT_FILENO, &chart[0..n], &mut text) {
-        os::fail(b"listing: standard output");
+    let ending = streams::list_input(&mut room, &mut text);
+    match ending {
+        streams::Ending::AllWritten => {}
+        streams::Ending::NotRead => {
+            os::fail(b"listing: standard input");
+        }
+        streams::Ending::NotWritten => {
+            os::fail(b"listing: standard output");
+        }
     }
 }

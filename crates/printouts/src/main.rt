@@ -1,6 +1,5 @@
 // Reads charts on standard input, each with its length in 16 bits before it, and writes the listing of each under its name: C1, C2 and so on.
 use libc::STDERR_FILENO;
-use libc::STDIN_FILENO;
 use libc::STDOUT_FILENO;
 ghost use Prim.Native.Nat.{_≤_};
 ghost use lib.ListN.{length};
@@ -11,7 +10,7 @@ fn print_named(k: usize, chart: &[u8]) -> bool {
     io::write_all(STDOUT_FILENO, b"C")
         && io::print_decimal(STDOUT_FILENO, k as u64)
         && io::write_all(STDOUT_FILENO, b"\n")
-        && streams::write_listing(STDOUT_FILENO, chart, &mut text)
+        && streams::write_listing(chart, &mut text)
 }
 
 // Prints chart k, which stands at `at`, and answers where it ends; or 0, when it has said what is wrong.
@@ -49,7 +48,7 @@ fn print_all(input: &[u8]) {
 
 fn main() {
     let mut input = [0u8; 65536];
-    let came = streams::read_all(STDIN_FILENO, &mut input);
+    let came = streams::read_all(&mut input);
     let streams::Input::Bytes(n) = came else {
         os::fail(b"printouts: standard input");
         return;

@@ -1,3 +1,6 @@
+pub mod Bounds
 pub mod Came
-pub mod Ending
+pub mod Closing
+pub mod Replies
+pub mod Settled
 pub mod Showing

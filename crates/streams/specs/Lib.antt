@@ -1,2 +1,4 @@
+pub mod Answers
 pub mod Counted
+pub mod Endings
 pub mod Texts

@@ -1,4 +1,5 @@
-//! `folder PATH`: writes C1 to C11 as text, as files and with their listings, as they stand in `charts/`.
+//! `folder PATH`: writes C1 to C11 as text, as files and with their listings, and the longest chart, as they stand in
+//! `charts/`.
 
 use second::folder::files;
 use std::path::Path;

@@ -1,6 +1,6 @@
 -- `streams::chart_end` meets its contract: too little is left for a length, or for the chart, or there it ends. Assumes nothing.
 use native.Mathlib.Omega.{arith}
-use Rattle.streams.proofs.Ending.{no-end, an-end}
+use Rattle.streams.proofs.Bounds.{no-end, an-end}
 use borrow.Author.Needs.{needs}
 use Rattle.streams.proofs.chart_end.Statement.{statement}
 use Rattle.streams.proofs.chart_end.Tie as tie

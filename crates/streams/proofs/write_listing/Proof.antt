@@ -1,4 +1,5 @@
 -- `streams::write_listing` meets its contract: a text that is not empty is the listing, and the whole of it is written. Assumes nothing.
+use mathlib.Core.Path.{refl}
 use native.Mathlib.Omega.{arith}
 use Rattle.printed.proofs.Settled.{listed-fits}
 use Rattle.streams.proofs.Showing.{shown, written}
@@ -25,7 +26,7 @@ part-write-text-end : tie.Need-part-write-text-end
 part-write-text-end c = omega (arith, listed-fits _ _ _ _ (c .before .before .before .before .list-chart .ensures))
 
 write-text-requires : tie.Need-write-text-requires
-write-text-requires c κs = shown _ _ _ _ (c .before .before .before .before .before .list-chart .ensures) (c .before .before .if1 .left)
+write-text-requires c κs = (refl, shown _ _ _ _ (c .before .before .before .before .before .list-chart .ensures) (c .before .before .if1 .left))
 
 same-length-2 : tie.Need-same-length-2
 same-length-2 c = search needs
