@@ -36,10 +36,10 @@ enum-told : tie.Need-enum-told
 enum-told c = search needs
 
 sub-put-corners : tie.Need-sub-put-corners
-sub-put-corners c = long-labels _ _ _ (c .before .before .before .before .before .before .before .before .before .before .pre .0) (corners (c .before))
+sub-put-corners c = omega (arith, long-labels _ _ _ (c .before .before .before .before .before .before .before .before .before .before .pre .0) (corners (c .before)))
 
 part-put-corners-start : tie.Need-part-put-corners-start
-part-put-corners-start c = long-labels _ _ _ (c .before .before .before .before .before .before .before .before .before .before .pre .0) (corners (c .before))
+part-put-corners-start c = omega (arith, long-labels _ _ _ (c .before .before .before .before .before .before .before .before .before .before .pre .0) (corners (c .before)))
 
 part-put-corners-end : tie.Need-part-put-corners-end
 part-put-corners-end c = search needs
