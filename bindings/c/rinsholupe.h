@@ -10,7 +10,7 @@
  *   - each pointer is valid for the length that follows it, and is not null even where that length is 0;
  *   - the report lent to rinsholupe_test overlaps nothing else that is lent to the same call;
  *   - no byte lent is altered by anyone else during the call, and no pointer is kept after it;
- *   - there is no global state, so calls may run on several threads; a call needs less than 64 KB of stack.
+ *   - there is no global state, so calls may run on several threads; a call needs less than 60 KB of stack.
  * Nothing more is asked: bytes of any values and any length have an answer.
  *
  * Answers are packed into one number. The inline functions below take them apart.

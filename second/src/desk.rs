@@ -48,6 +48,8 @@ pub const NAME: &str = if cfg!(feature = "stub") {
     "the stand-in"
 } else if cfg!(archive) {
     "the library"
+} else if cfg!(served) {
+    "the emulated library"
 } else {
     "nothing"
 };
@@ -56,7 +58,9 @@ pub const NAME: &str = if cfg!(feature = "stub") {
 pub fn library() -> Result<Box<dyn Desk>, &'static str> {
     #[cfg(any(archive, feature = "stub"))]
     return Ok(Box::new(archive::Library));
-    #[cfg(not(any(archive, feature = "stub")))]
+    #[cfg(served)]
+    return Ok(Box::new(crate::served::Served::start()?));
+    #[cfg(not(any(archive, served, feature = "stub")))]
     return Err("built without libexport.a: build the archive, name its folder in RINSHOLUPE_LIB_DIR, build again");
 }
 

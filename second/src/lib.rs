@@ -3,6 +3,7 @@
 //! rings and faces from the cycles of permutations; circles from a depth first search with three colours.
 
 pub mod brute;
+pub mod cases;
 pub mod chart;
 pub mod circle;
 pub mod comparison;
@@ -14,13 +15,16 @@ pub mod flow;
 pub mod folder;
 pub mod grow;
 pub mod holds;
+pub mod hubs;
 pub mod judge;
 pub mod listing;
 pub mod make;
+pub mod order;
 pub mod place;
 pub mod report;
 pub mod rng;
 pub mod same;
+pub mod served;
 pub mod sketch;
 pub mod small;
 pub mod spoil;

@@ -124,21 +124,28 @@ fn compare_compares() {
     // Without an archive there is nothing to compare, and that is no success.
     let wanted = if desk::library().is_ok() { 0 } else { 2 };
     assert_eq!(output.status.code(), Some(wanted), "{}", String::from_utf8_lossy(&output.stdout));
-    assert_eq!(run(compare, &["1"], b"").status.code(), Some(2));
+    assert_eq!(run(compare, &["order", "1", "20"], b"").status.code(), Some(wanted));
+    for words in [&["1"][..], &["order"], &["order", "1"], &["order", "small"], &["order", "1", "1", "1"]] {
+        assert_eq!(run(compare, words, b"").status.code(), Some(2), "{words:?}");
+    }
 }
 
 #[cfg(feature = "stub")]
 #[test]
 fn compare_stops_at_a_difference() {
-    for wrong in ["Number", "ByteBeyond", "Label", "CutDescending", "CircleTurned", "JudgeYes"] {
-        let output = Command::new(env!("CARGO_BIN_EXE_compare"))
-            .args(["1", "2000"])
-            .current_dir(env!("CARGO_TARGET_TMPDIR"))
-            .env("STAND_IN_WRONG", wrong)
-            .output()
-            .expect("the program runs");
-        let said = String::from_utf8_lossy(&output.stdout);
-        assert_eq!(output.status.code(), Some(1), "{wrong}: {said}");
-        assert!(said.contains("DIFFERENCE") && said.contains("saved difference-1-2000.evc"), "{wrong}: {said}");
+    let runs: [&[&str]; 2] = [&["1", "2000"], &["order", "1", "2000"]];
+    for words in runs {
+        for wrong in ["Number", "ByteBeyond", "Label", "CutDescending", "CircleTurned", "JudgeYes"] {
+            let output = Command::new(env!("CARGO_BIN_EXE_compare"))
+                .args(words)
+                .current_dir(env!("CARGO_TARGET_TMPDIR"))
+                .env("STAND_IN_WRONG", wrong)
+                .output()
+                .expect("the program runs");
+            let said = String::from_utf8_lossy(&output.stdout);
+            let saved = format!("saved difference-{}.evc", words.join("-"));
+            assert_eq!(output.status.code(), Some(1), "{wrong}: {said}");
+            assert!(said.contains("DIFFERENCE") && said.contains(&saved), "{wrong}: {said}");
+        }
     }
 }

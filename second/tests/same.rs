@@ -3,6 +3,7 @@
 use second::comparison::Comparison;
 use second::desk::{Desk, pack_test};
 use second::make::{NUMBERS, Size, aimed};
+use second::order::{Break, Ordered, Place};
 use second::rng::Rng;
 use second::spoil::{damage, limits};
 use second::stand_in::StandIn;
@@ -59,5 +60,21 @@ fn same_agrees_on_every_small_chart() {
     for (events, arrows) in [(2, 1), (3, 2), (2, 3), (3, 3)] {
         small::every_ringed(events, arrows, true, |chart| comparison.chart(chart))
             .unwrap_or_else(|difference| panic!("{difference:?}"));
+    }
+}
+
+#[test]
+fn same_agrees_on_broken_orders() {
+    let mut rng = Rng::new(34);
+    let mut comparison = Comparison::new(&Same, 35);
+    comparison.reports = 0;
+    for _ in 0..300 {
+        let ordered = Ordered::random(&mut rng);
+        for &kind in Break::ALL {
+            let place = Place::random(&mut rng);
+            if let Some(broken) = ordered.broken(&mut rng, kind, place) {
+                comparison.chart(&broken.bytes()).unwrap_or_else(|difference| panic!("{kind:?}: {difference:?}"));
+            }
+        }
     }
 }

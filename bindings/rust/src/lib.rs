@@ -8,7 +8,7 @@
 //! - [`judge`] answers with a [`Verdict`]: the labels hold, the cut holds, or the fault of the chart or of the report.
 //!
 //! No call asks anything of its bytes: any chart and any report of any length have an answer. The library keeps no
-//! state, so calls may run on several threads at once; one call needs less than 64 KB of stack.
+//! state, so calls may run on several threads at once; one call needs less than 60 KB of stack.
 //!
 //! The library is proved, this crate isn't. A call panics if the library's packed answer is none that the declared
 //! calls can give, as it may be where the archive linked is another one.

@@ -1,6 +1,6 @@
 pub mod Twins
 pub mod Rounds
-pub mod Ringed
+pub mod Counted
 pub mod Faces
 pub mod Parity
 pub mod Labels

@@ -47,19 +47,20 @@ cycle p d t pos back (suc k) =
       | no e ↦ (suc (r .0), omega arith, ap p (r .2))
     ]
 
+-- what no two numbers share, the lower one first
+pub apart-inj : (m : ℕ) (f : ℕ → ℕ) → ((i j : ℕ) → i < j → j < m → f i ≢ f j) → Inj m f
+apart-inj m f apart i j a b q =
+    elim (decLt i j) [
+      | yes l ↦ absurd (apart i j l b q)
+      | no l ↦ elim (decLt j i) [ yes l′ ↦ absurd (apart j i l′ a (sym q)) | no l′ ↦ omega arith ]
+    ]
+
 -- up to its first return a walk meets nothing twice
 pub fresh-inj : (p : ℕ → ℕ) (d m : ℕ) → iter p m d ≡ d → ((j : ℕ) → 0 < j → j < m → iter p j d ≢ d) → Inj m (λ k. iter p k d)
-fresh-inj p d m back fresh i j a b q =
-    elim (decLt i j) [
-      | yes l ↦ absurd (twice i j l b q)
-      | no l ↦ elim (decLt j i) [ yes l′ ↦ absurd (twice j i l′ a (sym q)) | no l′ ↦ omega arith ]
-    ]
-  where
-    twice : (i j : ℕ) → i < j → j < m → iter p i d ≡ iter p j d → ⊥
-    twice i j l h q =
-        let split : m - j + j ≡ m = omega arith in
-        fresh (m - j + i) (omega arith) (omega arith)
-        (iter-add p (m - j) i d ∙ ap (iter p (m - j)) q ∙ sym (iter-add p (m - j) j d) ∙ ap (λ (x : ℕ). iter p x d) split ∙ back)
+fresh-inj p d m back fresh = apart-inj m (λ k. iter p k d) (λ i j l h q.
+    let split : m - j + j ≡ m = omega arith in
+    fresh (m - j + i) (omega arith) (omega arith)
+    (iter-add p (m - j) i d ∙ ap (iter p (m - j)) q ∙ sym (iter-add p (m - j) j d) ∙ ap (λ (x : ℕ). iter p x d) split ∙ back))
 
 pub reach-trans : (p : ℕ → ℕ) (a b c : ℕ) → Reach p a b → Reach p b c → Reach p a c
 reach-trans p a b c s t = (t .0 + s .0, iter-add p (t .0) (s .0) a ∙ ap (iter p (t .0)) (s .1) ∙ t .1)
@@ -90,6 +91,13 @@ module _ (n : ℕ) (p : ℕ → ℕ) (inj : Inj n p) (into : Into n n p) where
   unfolding iter
   iter-inj zero d e l m q = q
   iter-inj (suc k) d e l m q = iter-inj k d e l m (inj (iter p k d) (iter p k e) (iter-into n p into k d l) (iter-into n p into k e m) q)
+
+  -- a walk that has not returned has met nothing twice
+  pub open-inj : (d m : ℕ) → d < n → ((j : ℕ) → 0 < j → j < m → iter p j d ≢ d) → Inj m (λ k. iter p k d)
+  open-inj d m l none = apart-inj m (λ k. iter p k d) (λ i j a b q.
+      let split : i + (j - i) ≡ j = omega arith in
+      none (j - i) (omega arith) (omega arith) (sym (iter-inj i d (iter p (j - i) d) l (iter-into n p into (j - i) d l)
+      (q ∙ ap (λ (x : ℕ). iter p x d) (sym split) ∙ iter-add p i (j - i) d))))
 
   -- every number returns to itself, within n steps
   pub returns : (d : ℕ) → d < n → (k : ℕ) × (0 < k) × (k ≤ n) × (iter p k d ≡ d)

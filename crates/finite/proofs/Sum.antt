@@ -37,6 +37,12 @@ unfolding sum
 sum-const zero k = omega arith
 sum-const (suc n) k = omega (arith, sum-const n k)
 
+-- twice the sum of the numbers below n, and n more
+pub sum-numbers : (n : ℕ) → 2 * sum n (λ i. i) + n ≡ n * n
+unfolding sum
+sum-numbers zero = omega arith
+sum-numbers (suc n) = omega (arith, sum-numbers n)
+
 pub sum-zero : (n : ℕ) (f : ℕ → ℕ) → ((i : ℕ) → i < n → f i ≡ 0) → sum n f ≡ 0
 sum-zero n f h = omega (arith, sum-cong n f (λ i. 0) h, sum-const n 0)
 

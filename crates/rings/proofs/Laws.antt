@@ -1,111 +1,133 @@
--- What the comparison of two events says, what going round one event leaves, and what the marks of all tell. Assumes nothing.
---   Lowest seen d low      of the marks below d, low tells whether every one is there
+-- What the comparison of two events says, what the sum of the successors tells, and what following a ring answers. Assumes nothing.
+--   Steady g d total       every dart below d is followed by a dart of its event, and their successors add up to total
 use mathlib.Core.Path.{_≡_, refl, sym, ap, _∙_}
 use mathlib.Core.Logic.{_≢_}
-use mathlib.Core.Bool.{Bool, true, false}
 use mathlib.Core.List.{List}
-use Prim.Native.Nat.{ℕ, _+_, _<_, _≤_}
-use native.Mathlib.Decide.{decLt}
+use Prim.Native.Nat.{ℕ, suc, _+_, _-_, _*_, _<_, _≤_}
+use native.Mathlib.Decide.{ℕ-discrete}
+use native.Mathlib.Numerals.{add-one}
 use native.Mathlib.Omega.{arith}
-use lib.ListN.{length, getD, set}
-use lib.Dec.{eqb, ltb}
+use lib.ListN.{length}
+use lib.Dec.{eqb}
 use borrow.Author.Count.{below-more}
 use Rattle.finite.specs.Says.{Says}
-use Rattle.finite.proofs.Yes.{says-as, says-equal, says-lt}
+use Rattle.finite.specs.Sums.{sum}
+use Rattle.finite.specs.Steps.{iter}
+use Rattle.finite.proofs.Sum.{sum-mono, sum-const, sum-numbers}
+use Rattle.finite.proofs.Yes.{says-as, says-equal}
+use Rattle.finite.proofs.Walk.{Walk, walk-step}
 use Rattle.drawing.specs.Drawing.{Drawing, darts, event, after}
 use Rattle.drawing.specs.Conditions.{EventsKnown, Rings}
 use Rattle.drawing.proofs.Rounds.{Keeps, Kept}
-use Rattle.drawing.proofs.Ringed.{Marked, Traced, Ringed, mark-here, trace-step, trace-first, ring-closed, refuse-open, ringed-skip, rings-exactly, bare}
+use Rattle.drawing.proofs.Counted.{Level, Counted, counted-skip, counted-ring, refuse-open, rings-counted}
 use Rattle.rules.specs.Chart.{drawing}
 use Rattle.words.specs.Tables.{nth}
 use Rattle.chart.specs.Shape.{Shape}
 use Rattle.chart.specs.Held.{Picked}
-use Rattle.rings.specs.Rounds.{Ended, Passed}
+use Rattle.rings.specs.Rounds.{Returned, Passed}
 
 -- c is the successor of d, and x and y are their events
 pub says-keeps : (g : Drawing) (d c x y : ℕ) → c ≡ after g d → c < darts g → x ≡ event g c → y ≡ event g d → Says (eqb x y) (Keeps g d)
 says-keeps g d c x y p l q r =
     says-as (eqb x y) (λ e. (omega arith, ap (event g) (sym p) ∙ sym q ∙ e ∙ r)) (λ k. q ∙ ap (event g) p ∙ k .1 ∙ sym r) (says-equal x y)
 
--- ---- a walk that marks, at the dart c, which has no mark, with the successor e
+-- ---- the successors of the darts below d
 
-module _ (s : List ℕ) (n : ℕ) (S : Shape s n) (K : Kept (drawing s)) (c e : ℕ) (l : c < n) (q : e ≡ after (drawing s) c) where
-  abbrev g : Drawing
-  g = drawing s
+pub record Steady (g : Drawing) (d total : ℕ) : Type 0 where
+  pub kept : (k : ℕ) → k < d → Keeps g k
+  pub adds : total ≡ sum d (after g)
 
-  pub walk-in : e < n
-  walk-in = omega (arith, S .darts, K c (omega (arith, S .darts)) .0)
+pub steady-start : (g : Drawing) → Steady g 0 0
+unfolding sum
+steady-start g = record { kept = λ k l. absurd (omega arith); adds = refl }
 
-  module _ (was seen : List ℕ) (d : ℕ) (size : length seen ≡ n) (T : Traced g was d c seen) (z : getD seen c 0 < 1) where
-    pub walk-on : Traced g was d e (set seen c 1)
-    walk-on = rw q (trace-step g was seen d c T (omega arith) z)
+module _ (g : Drawing) (d total : ℕ) (S : Steady g d total) where
+  -- both darts of an arrow
+  pub steady-on : (b c : ℕ) → b ≡ after g d → Keeps g d → c ≡ after g (d + 1) → Keeps g (d + 1) → Steady g (d + 2) (total + (b + c))
+  unfolding sum
+  steady-on b c p k q h = record {
+    kept = λ e l. elim (ℕ-discrete e (d + 1)) [ yes r ↦ rw r h | no r ↦ below-more (Keeps g) d (S .kept) k e (omega arith) ];
+    adds = omega (arith, S .adds, sum-two);
+  }
+    where
+      sum-two : sum (d + 2) (after g) ≡ sum d (after g) + after g d + after g (d + 1)
+      sum-two = let r : d + 2 ≡ suc (suc d) = omega arith in rw (r, add-one) refl
 
-    pub walk-back : e ≡ d → Ended g was d true (set seen c 1)
-    walk-back r = record {
-      last = e;
-      trace = walk-on;
-      marked = rw r (trace-first g was (set seen c 1) d e c walk-on (mark-here seen c c (omega arith) refl) (λ m. omega (arith, T .still c m)));
-      back = r;
+  pub steady-few : darts g ≤ 6144 → total ≤ d * 6144
+  steady-few few =
+      omega (arith, S .adds, sum-mono d (after g) (λ k. 6144) (λ k l. omega (arith, S .kept k l .0)), sum-const d 6144)
+
+  -- the darts add up to n * (n - 1) / 2
+  pub steady-done : (n : ℕ) → n ≡ d → n ≡ darts g → Says (eqb (2 * total + n) (n * n)) (Kept g × Level g)
+  steady-done n q r =
+      says-as (eqb (2 * total + n) (n * n)) (λ e. (λ k l. S .kept k (omega arith), rw (← r) (omega (arith, e, adds, sum-numbers n))))
+      (λ h. omega (arith, rw (← r) at (h .1), adds, sum-numbers n)) (says-equal (2 * total + n) (n * n))
+    where
+      adds : total ≡ sum n (after g)
+      adds = S .adds ∙ ap (λ (x : ℕ). sum x (after g)) (sym q)
+
+-- n * n of few
+pub square-few : (n : ℕ) → n ≤ 6144 → n * n ≤ 37748736
+square-few n l = omega (arith, sum-const n n, sum-const n 6144, sum-mono n (λ k. n) (λ k. 6144) (λ k h. l))
+
+-- ---- a walk from d that has come to c in k steps, without a return
+
+-- the successor of a dart is a dart
+pub walk-in : (s : List ℕ) (n : ℕ) → Shape s n → Kept (drawing s) → (c e : ℕ) → c < n → e ≡ after (drawing s) c → e < n
+walk-in s n S K c e l q = omega (arith, S .darts, K c (omega (arith, S .darts)) .0)
+
+module _ (g : Drawing) (d k c : ℕ) (W : Walk (after g) d k c) where
+  pub walk-on : (e : ℕ) → e ≡ after g c → e ≢ d → Walk (after g) d (k + 1) e
+  walk-on e q o = rw q (walk-step (after g) d k c W (λ r. o (q ∙ r)))
+
+  pub walk-back : (e : ℕ) → e ≡ after g c → e ≡ d → (left : ℕ) → k + 1 ≤ left → Returned g d left (k + 1)
+  unfolding iter
+  walk-back e q r left h = record {
+    within = h;
+    ring = λ a. record { some = a; back = rw add-one (ap (after g) (sym (W .here)) ∙ sym q ∙ r); fresh = λ j x y. W .fresh j x (omega arith) };
+    none = λ a. absurd (omega arith);
+  }
+
+  pub walk-open : (left : ℕ) → left ≡ k → Returned g d left 0
+  walk-open left q = record { within = omega arith; ring = λ a. absurd (omega arith); none = λ a j x y. W .fresh j x (omega arith) }
+
+-- ---- events in turn: d is picked for the event v, and at the events below it met darts were met
+
+module _ (s : List ℕ) (n : ℕ) (S : Shape s n) (K : Kept (drawing s)) (E : EventsKnown (drawing s)) (first : List ℕ) (P : Picked (drawing s) first) where
+  module _ (v met : ℕ) (l : v < length first) (m : met ≤ n) (I : Counted (drawing s) v met) (d : ℕ) (q : d ≡ nth first v) where
+    abbrev g : Drawing
+    g = drawing s
+
+    -- no dart: nothing to follow
+    pub pick-none : n ≤ d → Passed g (v + 1) met
+    pick-none h = record {
+      counted = λ a. counted-skip g v met I (λ e k r. omega (arith, S .darts, P .each e k, ap (nth first) r));
+      refused = λ a. absurd (omega (arith, S .darts));
     }
 
-    pub walk-open : Marked (set seen c 1) e → e ≢ d → Ended g was d false (set seen c 1)
-    walk-open m o = record { last = e; trace = walk-on; marked = m; back = o }
+    module _ (h : d < n) (r : ℕ) (W : Returned g d (n - met) r) where
+      inside : d < darts g
+      inside = omega (arith, S .darts)
 
--- ---- round the events in turn
+      there : event g d ≡ v
+      there = ap (event g) q ∙ P .own v (omega (arith, P .size)) (omega (arith, inside))
 
--- a dart of v, or none, is picked for it: then its walk begins where there is no mark, or there is nothing to go round
-module _ (g : Drawing) (K : Kept g) (first seen : List ℕ) (v : ℕ) (P : Picked g first) (l : v < length first) (I : Ringed g seen v) (d : ℕ) (q : d ≡ nth first v) where
-  pub pick-own : d < darts g → event g d ≡ v
-  pick-own h = ap (event g) q ∙ P .own v (omega (arith, P .size)) (omega arith)
+      -- no return within the darts that are left
+      pub pick-open : r < 1 → Passed g (v + 1) (n + 1)
+      pick-open z = record {
+        counted = λ a. absurd (omega (arith, S .darts));
+        refused = λ a. refuse-open g v met I K d inside there E (n - met) (omega (arith, S .darts)) (W .none z);
+      }
 
-  pub pick-bare : d < darts g → getD seen d 0 < 1
-  pick-bare h = elim (decLt (getD seen d 0) 1) [ yes z ↦ z | no z ↦ absurd (bare g K seen v I d h (pick-own h) d (pick-own h) (omega arith)) ]
+      pub pick-ring : 0 < r → Passed g (v + 1) (met + r)
+      pick-ring z = record {
+        counted = λ a. counted-ring g v met I K d inside there r (W .ring z);
+        refused = λ a. absurd (omega (arith, S .darts, W .within));
+      }
 
-  pub pick-none : darts g ≤ d → Ringed g seen (v + 1)
-  pick-none h = ringed-skip g K seen v I (λ e k r. omega (arith, P .each e k, ap (nth first) r))
-
--- the walk from a dart d of the event v, where the events below v have their rounds
-pub followed : (g : Drawing) → Kept g → (was : List ℕ) (v : ℕ) → Ringed g was v → (d : ℕ) → d < darts g → event g d ≡ v
-    → (r : Bool) (seen : List ℕ) → Ended g was d r seen → Passed g (v + 1) r seen
-followed g K was v I d l q true seen W = ring-closed g K was v I d l q seen (W .last) (W .trace) (W .marked) (W .back)
-followed g K was v I d l q false seen W = refuse-open g K was v I d l q seen (W .last) (W .trace) (W .marked) (W .back)
-
-pub passed : (g : Drawing) (v : ℕ) (r : Bool) (seen : List ℕ) → r ≡ true → Passed g v r seen → Ringed g seen v
-passed g v true seen e P = P
-passed g v false seen e P = absurd (let z : _≡_ {A = ℕ} 0 1 = cc in omega arith)
-
-pub refused : (g : Drawing) (v : ℕ) (r : Bool) (seen : List ℕ) → r ≡ false → Passed g v r seen → Rings g → ⊥
-refused g v true seen e P = absurd (let z : _≡_ {A = ℕ} 0 1 = cc in omega arith)
-refused g v false seen e P = P
-
--- ---- the marks of all
-
-pub record Lowest (seen : List ℕ) (d low : ℕ) : Type 0 where
-  pub within : d ≤ length seen
-  pub all : 1 ≤ low → (k : ℕ) → k < d → Marked seen k
-  pub some : low < 1 → ((k : ℕ) → k < length seen → Marked seen k) → ⊥
-
-pub lowest-start : (seen : List ℕ) → Lowest seen 0 1
-lowest-start seen = record { within = omega arith; all = λ a k l. absurd (omega arith); some = λ a. absurd (omega arith) }
-
-pub lowest-step : (seen : List ℕ) (d low r : ℕ) → Lowest seen d low → d < length seen
-    → (1 ≤ r → (1 ≤ low) × (1 ≤ getD seen d 0)) × (r < 1 → 1 ≤ low → getD seen d 0 < 1) → Lowest seen (d + 1) r
-lowest-step seen d low r I l m = record {
-  within = omega arith;
-  all = λ a. let b = m .0 a in below-more (Marked seen) d (I .all (b .0)) (b .1);
-  some = λ a every. elim (decLt low 1) [
-    | yes b ↦ I .some b every
-    | no b ↦ omega (arith, m .1 a (omega arith), every d l)
-  ];
-}
-
-pub lowest-done : (seen : List ℕ) (d low : ℕ) → Lowest seen d low → length seen ≤ d → Says (ltb 0 low) ((k : ℕ) → k < length seen → Marked seen k)
-lowest-done seen d low I h =
-    says-as (ltb 0 low) (λ a k l. I .all a k (omega arith)) (λ every. elim (decLt 0 low) [ yes a ↦ a | no a ↦ absurd (I .some (omega arith) every) ]) (says-lt 0 low)
-
--- every event has its round, and then the marks of all tell
-pub rings-all : (g : Drawing) → Kept g → EventsKnown g → (seen : List ℕ) → Ringed g seen (g .events)
-    → (r : Bool) → Says r ((d : ℕ) → d < length seen → Marked seen d) → Says r (Rings g)
-rings-all g K E seen I r =
-    let exactly = rings-exactly g K seen E I in
-    says-as r (λ every. exactly .0 (λ d l. every d (omega (arith, I .size)))) (λ R d l. exactly .1 R d (omega (arith, I .size)))
+-- the rings of all events are followed
+pub all-counted : (s : List ℕ) (n : ℕ) → Shape s n → Kept (drawing s) → EventsKnown (drawing s)
+    → (v met : ℕ) → v ≡ drawing s .events → Counted (drawing s) v met → Says (eqb met n) (Rings (drawing s))
+all-counted s n S K E v met q I =
+    let exactly = rings-counted (drawing s) K E met (rw q at I) in
+    says-as (eqb met n) (λ e. exactly .0 (e ∙ S .darts)) (λ R. exactly .1 R ∙ sym (S .darts)) (says-equal met n)

@@ -1,21 +1,18 @@
--- What following one ring, and all of them, leaves in the table of marks. Assumes nothing.
---   Ended g was d r seen     the darts met from d on are marked, up to one that comes again; r says whether that is d
---   Passed g v r seen        true: the marks are the rounds of the events below v; false: some event's darts are not one ring
-use mathlib.Core.Path.{_≡_}
-use mathlib.Core.Bool.{Bool, true, false}
-use mathlib.Core.List.{List}
-use Prim.Native.Nat.{ℕ}
-use Rattle.finite.specs.Says.{Says}
-use Rattle.drawing.specs.Drawing.{Drawing}
+-- What following one ring, and the rings up to an event, answers. Assumes nothing.
+--   Returned g d left r     d comes again after r steps and not before, within left; or r is 0, and it does not within left
+--   Passed g v r            up to all darts: r are met on the rings of the events below v; more: some event's darts are not one ring
+use mathlib.Core.Logic.{_≢_}
+use Prim.Native.Nat.{ℕ, _<_, _≤_}
+use Rattle.finite.specs.Steps.{iter}
+use Rattle.drawing.specs.Drawing.{Drawing, darts, after}
 use Rattle.drawing.specs.Conditions.{Rings}
-use Rattle.drawing.proofs.Ringed.{Marked, Traced, Ringed}
+use Rattle.drawing.proofs.Counted.{Circled, Counted}
 
-pub record Ended (g : Drawing) (was : List ℕ) (d : ℕ) (r : Bool) (seen : List ℕ) : Type 0 where
-  pub last : ℕ
-  pub trace : Traced g was d last seen
-  pub marked : Marked seen last
-  pub back : Says r (last ≡ d)
+pub record Returned (g : Drawing) (d left r : ℕ) : Type 0 where
+  pub within : r ≤ left
+  pub ring : 0 < r → Circled g d r
+  pub none : r < 1 → (j : ℕ) → 0 < j → j ≤ left → iter (after g) j d ≢ d
 
-abbrev pub Passed : Drawing → ℕ → Bool → List ℕ → Type 0
-Passed g v true seen = Ringed g seen v
-Passed g v false seen = Rings g → ⊥
+pub record Passed (g : Drawing) (v r : ℕ) : Type 0 where
+  pub counted : r ≤ darts g → Counted g v r
+  pub refused : darts g < r → Rings g → ⊥

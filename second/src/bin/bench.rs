@@ -1,14 +1,9 @@
 //! `bench`: the library's test against a Rust program of the same algorithm (`same.rs`), on the same charts, in turn.
 
-use second::chart::Chart;
+use second::cases::{CHARTS, Case, cases};
 use second::desk::{self, Desk};
-use second::drawing::Drawing;
-use second::examine::examine;
 use second::report::FULL_ROOM;
-use second::rng::Rng;
 use second::same;
-use second::sketch::Sketch;
-use second::upward::{Plan, upward};
 use std::hint::black_box;
 use std::process::ExitCode;
 use std::time::{Duration, Instant};
@@ -16,15 +11,6 @@ use std::time::{Duration, Instant};
 /// How often each chart is measured, and how long one measurement is at least.
 const ROUNDS: usize = 101;
 const ROUND: Duration = Duration::from_micros(500);
-
-/// How many charts of a kind take turns, so that no program learns one by heart.
-const CHARTS: usize = 16;
-
-struct Case {
-    name: String,
-    charts: Vec<Chart>,
-    sources_and_sinks: usize,
-}
 
 struct Times {
     library: Vec<f64>,
@@ -57,9 +43,9 @@ fn main() -> ExitCode {
         println!(
             "{:<22} {:>6} {:>6} {:>7}  {}  {}  {ratio:>6.2}  {low:>5.2} - {high:>5.2}  {best:>6.2}",
             case.name,
-            case.charts[0].events,
-            case.charts.iter().map(|chart| chart.arrows.len()).sum::<usize>() / case.charts.len(),
-            case.sources_and_sinks,
+            case.events(),
+            case.arrows(),
+            case.sources_and_sinks().map_or("-".into(), |count| count.to_string()),
             spread(times.library.clone()),
             spread(times.rust)
         );
@@ -69,7 +55,8 @@ fn main() -> ExitCode {
     for result in ["accepted", "refused"] {
         let time = |few_or_many: &str| {
             let name = format!("1000 {result} {few_or_many}");
-            of_library.iter().find(|(case, _)| case.name == name).map(|(case, time)| (case.sources_and_sinks, *time))
+            let (case, time) = of_library.iter().find(|(case, _)| case.name == name)?;
+            Some((case.sources_and_sinks()?, *time))
         };
         if let (Some((few, short)), Some((many, long))) = (time("few"), time("many")) {
             println!("1,000 events, {result}: {many} sources and sinks take {:.2} of the time of {few}", long / short);
@@ -78,65 +65,9 @@ fn main() -> ExitCode {
     ExitCode::SUCCESS
 }
 
-fn cases() -> Vec<Case> {
-    let mut cases = Vec::new();
-    for events in [100, 400, 1000] {
-        for (name, sources_and_sinks) in [("few", 10), ("many", 3 * events / 10)] {
-            for (result, number) in [("accepted", 0), ("refused", 14)] {
-                let name = format!("{events} {result} {name}");
-                cases.push(case(name, number, events, sources_and_sinks));
-            }
-        }
-    }
-    cases.push(zigzags());
-    cases
-}
-
-/// Six zigzags between two events, where every event is a source or a sink and most may go into either of two faces.
-fn zigzags() -> Case {
-    let (count, turns) = (6, 165);
-    let mut sketch = Sketch::new();
-    for _ in 1..count {
-        sketch.double(0);
-    }
-    for arrow in 0..count {
-        let mut dart = 2 * arrow;
-        for _ in 0..turns {
-            let further = sketch.darts();
-            sketch.split(dart, true);
-            dart = further;
-        }
-    }
-    let mut rng = Rng::new(1);
-    let charts: Vec<Chart> = (0..CHARTS).map(|_| sketch.shuffled(&mut rng)).collect();
-    assert!(charts.iter().all(|chart| examine(&chart.bytes()).number() == 0));
-    Case { name: "zigzags".into(), charts, sources_and_sinks: sketch.events }
-}
-
-/// Charts with the given number of sources and sinks: drawn for 0, with another outer face for 14.
-fn case(name: String, number: u16, events: usize, sources_and_sinks: usize) -> Case {
-    let mut rng = Rng::new(events as u64);
-    let mut charts = Vec::new();
-    while charts.len() < CHARTS {
-        let plan = Plan { events, arrows: events - 1, most_sources_and_sinks: sources_and_sinks };
-        let mut sketch = upward(&mut rng, plan);
-        for _ in 0..20 {
-            let chart = sketch.shuffled(&mut rng);
-            let drawing = Drawing::new(chart.clone()).expect("a drawing");
-            let bare = drawing.sources_and_sinks().len();
-            if bare == sources_and_sinks && examine(&chart.bytes()).number() == number {
-                charts.push(chart);
-                break;
-            }
-            sketch.outer = rng.below(sketch.darts());
-        }
-    }
-    Case { name, charts, sources_and_sinks }
-}
-
 fn measure(library: &dyn Desk, case: &Case) -> Times {
     let (mut by_library, mut by_rust) = (vec![0xA5; FULL_ROOM], vec![0xA5; FULL_ROOM]);
-    let charts: Vec<Vec<u8>> = case.charts.iter().map(Chart::bytes).collect();
+    let charts = &case.charts;
     let mut call_library = |chart: &[u8]| {
         black_box(library.test(black_box(chart), &mut by_library));
     };
@@ -144,16 +75,16 @@ fn measure(library: &dyn Desk, case: &Case) -> Times {
         black_box(same::test(black_box(chart), &mut by_rust));
     };
     // As many turns as fill a round, found on the slower of the two; the first calls warm up.
-    let one = time(1, &charts, &mut call_library).max(time(1, &charts, &mut call_rust)).max(1e-3);
+    let one = time(1, charts, &mut call_library).max(time(1, charts, &mut call_rust)).max(1e-3);
     let turns = (ROUND.as_secs_f64() * 1e6 / one / CHARTS as f64).ceil() as usize;
     let mut times = Times { library: Vec::new(), rust: Vec::new() };
     for round in 0..ROUNDS {
         if round % 2 == 0 {
-            times.library.push(time(turns, &charts, &mut call_library));
-            times.rust.push(time(turns, &charts, &mut call_rust));
+            times.library.push(time(turns, charts, &mut call_library));
+            times.rust.push(time(turns, charts, &mut call_rust));
         } else {
-            times.rust.push(time(turns, &charts, &mut call_rust));
-            times.library.push(time(turns, &charts, &mut call_library));
+            times.rust.push(time(turns, charts, &mut call_rust));
+            times.library.push(time(turns, charts, &mut call_library));
         }
     }
     times

@@ -1,25 +1,32 @@
 //! `compare SEED COUNT`: the library against the second program on COUNT random charts, each with damaged variants.
 //! `compare small`: on every chart of a few events and arrows.
+//! `compare order SEED COUNT`: on COUNT random charts, each as it is and with its order broken in every way.
 //! Ends with a non-zero status at the first difference and names the files that show it.
 
 use second::comparison::{Comparison, Difference};
 use second::desk;
 use second::make::{NUMBERS, Size, aimed};
+use second::order::{Break, Ordered, Place};
 use second::rng::Rng;
 use second::spoil::{damage, limits};
 use second::{small, table};
+use std::collections::BTreeMap;
 use std::env;
 use std::fs;
 use std::process::ExitCode;
 use std::time::Instant;
 
-const USAGE: &str = "usage: compare SEED COUNT, or compare small";
+const USAGE: &str = "usage: compare SEED COUNT, or compare small, or compare order SEED COUNT";
 /// Damaged variants of each random chart.
 const VARIANTS: usize = 2;
 
+/// How many charts were compared for each way to break the order.
+type Kinds = BTreeMap<Break, usize>;
+
 fn main() -> ExitCode {
     let words: Vec<String> = env::args().skip(1).collect();
-    let numbers: Option<Vec<u64>> = words.iter().map(|word| word.parse().ok()).collect();
+    let order = words.first().is_some_and(|word| word == "order");
+    let numbers: Option<Vec<u64>> = words[usize::from(order)..].iter().map(|word| word.parse().ok()).collect();
     let library = match desk::library() {
         Ok(library) => library,
         Err(why) => {
@@ -29,6 +36,7 @@ fn main() -> ExitCode {
     };
     let start = Instant::now();
     let mut comparison;
+    let mut kinds = Kinds::new();
     let result = match (words.iter().map(String::as_str).collect::<Vec<&str>>().as_slice(), numbers.as_deref()) {
         (["small"], _) => {
             comparison = Comparison::new(library.as_ref(), 0);
@@ -36,13 +44,20 @@ fn main() -> ExitCode {
         }
         (_, Some(&[seed, count])) => {
             comparison = Comparison::new(library.as_ref(), !seed);
-            compare_random(&mut comparison, seed, count)
+            if order {
+                compare_order(&mut comparison, &mut kinds, seed, count)
+            } else {
+                compare_random(&mut comparison, seed, count)
+            }
         }
         _ => {
             eprintln!("{USAGE}");
             return ExitCode::from(2);
         }
     };
+    if order {
+        summary_of_kinds(&kinds);
+    }
     summary(&comparison, start);
     match result {
         Ok(()) => {
@@ -93,11 +108,42 @@ fn compare_random(comparison: &mut Comparison, seed: u64, count: u64) -> Result<
             damage(&mut rng, &mut variant);
             comparison.chart(&variant)?;
         }
-        if count >= 10 && (done + 1) % (count / 10) == 0 {
-            println!("{} of {count} charts", done + 1);
-        }
+        progress(done + 1, count);
     }
     Ok(())
+}
+
+fn compare_order(comparison: &mut Comparison, kinds: &mut Kinds, seed: u64, count: u64) -> Result<(), Difference> {
+    // What a report says matters little where the chart is refused.
+    comparison.reports = 1;
+    let mut rng = Rng::new(seed);
+    for done in 0..count {
+        let ordered = Ordered::random(&mut rng);
+        comparison.chart(&ordered.chart().bytes())?;
+        for &kind in Break::ALL {
+            let place = Place::random(&mut rng);
+            if let Some(broken) = ordered.broken(&mut rng, kind, place) {
+                comparison.chart(&broken.bytes())?;
+                *kinds.entry(kind).or_default() += 1;
+            }
+        }
+        progress(done + 1, count);
+    }
+    Ok(())
+}
+
+/// Tells ten times how far the comparison is.
+fn progress(done: u64, count: u64) {
+    if count >= 10 && done.is_multiple_of(count / 10) {
+        println!("{done} of {count} charts");
+    }
+}
+
+fn summary_of_kinds(kinds: &Kinds) {
+    println!("charts by the way their order is broken:");
+    for kind in Break::ALL {
+        println!("  {:<30} {}", kind.name(), kinds.get(kind).unwrap_or(&0));
+    }
 }
 
 fn summary(comparison: &Comparison, start: Instant) {

@@ -8,9 +8,6 @@ use Rattle.rings.proofs.Laws.{says-keeps}
 use Rattle.rings.proofs.keeps.Statement.{statement}
 use Rattle.rings.proofs.keeps.Tie as tie
 
-next-of-requires : tie.Need-next-of-requires
-next-of-requires c κs = search needs
-
 returns : tie.Need-returns
 returns c = search needs
 
@@ -22,12 +19,10 @@ event-of-requires-2 c κs = search needs
 
 returns-2 : tie.Need-returns-2
 returns-2 c =
-    let s = c .before .before .before .before .before in
+    let s = c .before .before .before .before in
     let g = drawing (s .args .chart .now) in
-    let n = c .before .before .before .next-of in
-    let l : n .result < darts g = omega (arith, s .pre .0 .darts) in
-    says-keeps g (s .args .d) _ _ _ (n .ensures) l (c .before .event-of .ensures) (c .event-of2 .ensures)
+    let l : s .args .c < darts g = omega (arith, s .pre .0 .darts) in
+    says-keeps g (s .args .d) _ _ _ (s .pre .2) l (c .before .event-of .ensures) (c .event-of2 .ensures)
 
 pub keeps-spec : {M : Type 1} → statement M
-keeps-spec =
-    tie.close (tie.spec next-of-requires returns event-of-requires event-of-requires-2 returns-2)
+keeps-spec = tie.close (tie.spec returns event-of-requires event-of-requires-2 returns-2)

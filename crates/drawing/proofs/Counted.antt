@@ -1,0 +1,216 @@
+-- The ring of each event followed from one of its darts, and the darts on it counted: they are all darts exactly if `Rings`. Assumes nothing.
+--   around g v          how many darts the event v has
+--   Level g             the successors add up to what the darts add up to
+--   Circled g d k       going on from d, d comes again after k steps, and not before
+--   OneRing g v         each dart of the event v leads to each
+--   Counted g v met     what met darts, on one ring at each event below v, tell: they are no more than these events have, as many only if each
+--                       of these is one ring, and as many if every event is
+use mathlib.Core.Path.{_≡_, refl, sym, ap, _∙_}
+use mathlib.Core.Logic.{_≢_, _↔_}
+use Prim.Native.Nat.{ℕ, suc, _+_, _-_, _*_, _<_, _≤_}
+use native.Mathlib.Decide.{ℕ-discrete, decLe}
+use native.Mathlib.Numerals.{add-one}
+use native.Mathlib.Omega.{arith}
+use Rattle.finite.specs.Sums.{sum, δ, class}
+use Rattle.finite.specs.Steps.{iter, Inj}
+use Rattle.finite.proofs.Decide.{any?}
+use Rattle.finite.proofs.Sum.{sum-mono, sum-term, sum-zero, sum-const, sum-tight, sum-prefix, δ-eq, δ-other}
+use Rattle.finite.proofs.Class.{class-total, class-zero}
+use Rattle.finite.proofs.Perm.{fibre, fibre-le, fibre-total, inj-le, reindex}
+use Rattle.finite.proofs.Orbit.{cycle, fresh-inj, iter-add, open-inj}
+use Rattle.drawing.specs.Drawing.{Drawing, darts, event, after}
+use Rattle.drawing.specs.Conditions.{EventsKnown, Rings}
+use Rattle.drawing.proofs.Rounds.{Kept, goes-inside, goes-there, after-inj}
+
+unfoldable pub around : Drawing → ℕ → ℕ
+around g v = class (darts g) (event g) (λ d. 1) v
+
+abbrev pub Level : Drawing → Type 0
+Level g = sum (darts g) (after g) ≡ sum (darts g) (λ d. d)
+
+pub record Circled (g : Drawing) (d k : ℕ) : Type 0 where
+  pub some : 0 < k
+  pub back : iter (after g) k d ≡ d
+  pub fresh : (j : ℕ) → 0 < j → j < k → iter (after g) j d ≢ d
+
+abbrev pub OneRing : Drawing → ℕ → Type 0
+OneRing g v = (d e : ℕ) → d < darts g → e < darts g → event g d ≡ v → event g e ≡ v → (k : ℕ) × (k < darts g) × (iter (after g) k d ≡ e)
+
+pub record Counted (g : Drawing) (v met : ℕ) : Type 0 where
+  pub most : met ≤ sum v (around g)
+  pub whole : met ≡ sum v (around g) → (u : ℕ) → u < v → OneRing g u
+  pub exact : Rings g → met ≡ sum v (around g)
+
+-- the successors in rings are the darts in another order
+pub rings-level : (g : Drawing) → Rings g → Level g
+rings-level g R = reindex (darts g) (after g) (after-inj g R) (R .inside) (λ d. d)
+
+-- every dart is of one event
+pub around-total : (g : Drawing) → EventsKnown g → sum (g .events) (around g) ≡ darts g
+unfolding around
+around-total g E = omega (arith, class-total (darts g) (g .events) (event g) (λ d. 1) E, sum-const (darts g) 1)
+
+module _ (g : Drawing) (K : Kept g) (d : ℕ) (l : d < darts g) where
+  -- ---- a walk of m steps from d that meets no dart twice
+
+  module _ (m : ℕ) (once : Inj m (λ j. iter (after g) j d)) where
+    into : (j : ℕ) → j < m → iter (after g) j d < darts g
+    into j h = goes-inside g K j d l
+
+    -- it meets a dart of its event at most once, and no other dart
+    held : (e : ℕ) → e < darts g → fibre m (λ j. iter (after g) j d) e ≤ δ (event g e) (event g d) * 1
+    held e h = elim (ℕ-discrete (event g e) (event g d)) [
+      | yes q ↦ omega (arith, fibre-le m (λ j. iter (after g) j d) once e, δ-eq (event g e) (event g d) q)
+      | no q ↦ omega (
+        arith,
+        sum-zero m (λ j. δ (iter (after g) j d) e) (λ j i. δ-other (iter (after g) j d) e (λ r. q (ap (event g) (sym r) ∙ goes-there g K j d l))),
+      )
+    ]
+
+    pub walk-most : m ≤ around g (event g d)
+    unfolding around class
+    walk-most = omega (
+      arith,
+      fibre-total m (darts g) (λ j. iter (after g) j d) into,
+      sum-mono (darts g) (fibre m (λ j. iter (after g) j d)) (λ e. δ (event g e) (event g d) * 1) held,
+    )
+
+    -- as many steps as the event has darts meet each of them
+    pub walk-whole : m ≡ around g (event g d) → (e : ℕ) → e < darts g → event g e ≡ event g d → (j : ℕ) × (j < m) × (iter (after g) j d ≡ e)
+    unfolding around class
+    walk-whole q e h r =
+        elim (any? m (λ j. iter (after g) j d ≡ e) (λ j. ℕ-discrete (iter (after g) j d) e)) [
+          | yes t ↦ t
+          | no none ↦
+              let tight =
+              sum-tight (darts g) (fibre m (λ j. iter (after g) j d)) (λ x. δ (event g x) (event g d) * 1) held
+              (fibre-total m (darts g) (λ j. iter (after g) j d) into ∙ q) e h in
+              absurd (omega (
+                arith,
+                tight,
+                δ-eq (event g e) (event g d) r,
+                sum-zero m (λ j. δ (iter (after g) j d) e) (λ j i. δ-other (iter (after g) j d) e (λ s. none (j, i, s))),
+              ))
+        ]
+
+  -- ---- a walk that comes back to d
+
+  module _ (k : ℕ) (C : Circled g d k) where
+    once : Inj k (λ j. iter (after g) j d)
+    once = fresh-inj (after g) d k (C .back) (C .fresh)
+
+    pub ring-most : k ≤ around g (event g d)
+    ring-most = walk-most k once
+
+    -- one ring of all darts of the event
+    pub ring-whole : k ≡ around g (event g d) → OneRing g (event g d)
+    ring-whole q x y h i r s =
+        let a = walk-whole k once q x h r in
+        let b = walk-whole k once q y i s in
+        let few : k ≤ darts g = inj-le k (darts g) (λ j. iter (after g) j d) once (into k once) in
+        on few (a .0) (b .0) (a .1) (b .1) (a .2) (b .2)
+      where
+        on : k ≤ darts g → (i j : ℕ) → i < k → j < k → iter (after g) i d ≡ x → iter (after g) j d ≡ y
+            → (t : ℕ) × (t < darts g) × (iter (after g) t x ≡ y)
+        on few i j im jm s t =
+            let p = after g in
+            elim (decLe i j) [
+              | yes h ↦
+                  let split : j - i + i ≡ j = omega arith in
+                  (j - i, omega arith, ap (iter p (j - i)) (sym s) ∙ sym (iter-add p (j - i) i d) ∙ ap (λ (n : ℕ). iter p n d) split ∙ t)
+              | no h ↦
+                  let split : k - i + i ≡ k = omega arith in (
+                    j + (k - i),
+                    omega arith,
+                    ap (iter p (j + (k - i))) (sym s) ∙ iter-add p j (k - i) (iter p i d)
+                        ∙ ap (iter p j) (sym (iter-add p (k - i) i d) ∙ ap (λ (n : ℕ). iter p n d) split ∙ C .back) ∙ t,
+                  )
+            ]
+
+    -- where each event's darts are one ring, this is all of it
+    pub ring-exact : Rings g → k ≡ around g (event g d)
+    unfolding around class
+    ring-exact R =
+        omega (
+          arith,
+          ring-most,
+          fibre-total k (darts g) (λ j. iter (after g) j d) (into k once),
+          sum-mono (darts g) (λ e. δ (event g e) (event g d) * 1) (fibre k (λ j. iter (after g) j d)) (λ e h. elim (ℕ-discrete (event g e) (event g d)) [
+            | yes q ↦
+                let t = R .meets d e l h (sym q) in
+                let c = cycle (after g) d k (C .some) (C .back) (t .0) in
+                omega (
+                  arith,
+                  δ-eq (event g e) (event g d) q,
+                  sum-term k (λ j. δ (iter (after g) j d) e) (c .0) (c .1),
+                  δ-eq (iter (after g) (c .0) d) e (sym (c .2) ∙ t .2),
+                )
+            | no q ↦ omega (arith, δ-other (event g e) (event g d) q)
+          ]),
+        )
+
+-- ---- events in turn
+
+-- no event yet
+pub counted-none : (g : Drawing) → Counted g 0 0
+unfolding sum
+counted-none g = record { most = omega arith; whole = λ q u l. absurd (omega arith); exact = λ R. refl }
+
+module _ (g : Drawing) (v met : ℕ) (I : Counted g v met) where
+  one-more : sum (v + 1) (around g) ≡ sum v (around g) + around g v
+  unfolding sum
+  one-more = rw add-one refl
+
+  -- an event without darts has nothing to follow
+  pub counted-skip : ((d : ℕ) → d < darts g → event g d ≢ v) → Counted g (v + 1) met
+  unfolding around
+  counted-skip none = record {
+    most = omega (arith, one-more, I .most);
+    whole = λ q u l. elim (ℕ-discrete u v) [
+      | yes e ↦ λ d x h i r s. absurd (none d h (r ∙ e))
+      | no e ↦ I .whole (omega (arith, one-more, empty)) u (omega arith)
+    ];
+    exact = λ R. omega (arith, one-more, empty, I .exact R);
+  }
+    where
+      empty : around g v ≡ 0
+      empty = class-zero (darts g) (event g) (λ d. 1) v (λ d l q. absurd (none d l q))
+
+  module _ (K : Kept g) (d : ℕ) (l : d < darts g) (there : event g d ≡ v) where
+    -- the ring of k darts is followed
+    pub counted-ring : (k : ℕ) → Circled g d k → Counted g (v + 1) (met + k)
+    counted-ring k C = record {
+      most = omega (arith, one-more, I .most, most);
+      whole = λ q u h. elim (ℕ-discrete u v) [
+        | yes e ↦ rw (e, ← there) (ring-whole g K d l k C (omega (arith, one-more, I .most, most, ap (around g) there)))
+        | no e ↦ I .whole (omega (arith, one-more, I .most, most)) u (omega arith)
+      ];
+      exact = λ R. omega (arith, one-more, I .exact R, ring-exact g K d l k C R, ap (around g) there);
+    }
+      where
+        most : k ≤ around g v
+        most = rw (← there) (ring-most g K d l k C)
+
+    -- a walk that does not come back within as many steps as there are darts left
+    pub refuse-open : EventsKnown g → (left : ℕ) → darts g ≤ met + left
+        → ((j : ℕ) → 0 < j → j ≤ left → iter (after g) j d ≢ d) → Rings g → ⊥
+    refuse-open E left enough none R =
+        omega (
+          arith,
+          I .exact R,
+          walk-most g K d l (suc left) (open-inj (darts g) (after g) (after-inj g R) (R .inside) d (suc left) l (λ j a b. none j a (omega arith))),
+          ap (around g) there,
+          sum-prefix v (g .events) (around g) (omega (arith, E d l)),
+          around-total g E,
+        )
+
+-- one ring followed at each event: all darts are met exactly if each event's darts are one ring
+pub rings-counted : (g : Drawing) → Kept g → EventsKnown g → (met : ℕ) → Counted g (g .events) met → (met ≡ darts g) ↔ Rings g
+rings-counted g K E met I = (
+  λ q. record {
+    inside = λ d l. K d l .0;
+    stays = λ d l. K d l .1;
+    meets = λ d e h i r. I .whole (q ∙ sym (around-total g E)) (event g d) (E d h) d e h i refl (sym r);
+  },
+  λ R. I .exact R ∙ around-total g E,
+)
