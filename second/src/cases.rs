@@ -4,12 +4,16 @@ use crate::chart::{Chart, HEADER, MOST_ARROWS};
 use crate::drawing::Drawing;
 use crate::examine::examine;
 use crate::hubs;
+use crate::kinds;
+use crate::make::{self, Size};
 use crate::order::{Break, Ordered, Place};
 use crate::rng::Rng;
 use crate::sketch::Sketch;
+use crate::slow;
 use crate::spoil::fan;
 use crate::upward::{Plan, upward};
 use crate::words::word;
+use std::ops::RangeInclusive;
 
 /// How many charts of a kind take turns, so that no program learns one by heart.
 pub const CHARTS: usize = 16;
@@ -20,17 +24,22 @@ pub struct Case {
     pub number: u16,
     /// The charts as files.
     pub charts: Vec<Vec<u8>>,
+    /// Whether document 02 asks for this kind by name.
+    pub listed: bool,
 }
 
 impl Case {
     fn new(name: impl Into<String>, number: u16, charts: &[Chart]) -> Case {
+        Case::of_files(name, number, charts.iter().map(Chart::bytes).collect())
+    }
+
+    fn of_files(name: impl Into<String>, number: u16, charts: Vec<Vec<u8>>) -> Case {
         let name = name.into();
-        let charts: Vec<Vec<u8>> = charts.iter().map(Chart::bytes).collect();
         assert_eq!(charts.len(), CHARTS, "{name}");
         for chart in &charts {
             assert_eq!(examine(chart).number(), number, "{name}");
         }
-        Case { name, number, charts }
+        Case { name, number, charts, listed: false }
     }
 
     /// The events of the first chart; most cases have the same for all.
@@ -51,58 +60,175 @@ impl Case {
 
 /// All cases.
 pub fn cases() -> Vec<Case> {
-    let mut cases = Vec::new();
-    for events in [100, 400, 1000] {
-        for (name, sources_and_sinks) in [("few", 10), ("many", 3 * events / 10)] {
-            for (result, number) in [("accepted", 0), ("refused", 14)] {
-                let name = format!("{events} {result} {name}");
-                cases.push(case(name, number, events, sources_and_sinks));
-            }
-        }
-    }
-    cases.push(zigzags());
+    let mut cases = listed();
+    cases.push(Case::new("zigzags", 0, &shuffles(&mut Rng::new(1), &kinds::zigzags(6, 165))));
     cases.extend(broken());
     cases.extend(with_hubs());
+    for events in SIZES {
+        cases.extend(of_every_kind(events));
+    }
+    for events in SIZES {
+        cases.extend(refused_early(events));
+    }
+    for events in SIZES {
+        cases.extend(slow(events));
+    }
+    cases.extend(tiny());
     cases
 }
 
-/// Six zigzags between two events, where every event is a source or a sink and most may go into either of two faces.
-fn zigzags() -> Case {
-    let (count, turns) = (6, 165);
-    let mut sketch = Sketch::new();
-    for _ in 1..count {
-        sketch.double(0);
-    }
-    for arrow in 0..count {
-        let mut dart = 2 * arrow;
-        for _ in 0..turns {
-            let further = sketch.darts();
-            sketch.split(dart, true);
-            dart = further;
+const SIZES: [usize; 3] = [100, 400, 1000];
+
+/// The list of document 02.
+fn listed() -> Vec<Case> {
+    let mut cases = Vec::new();
+    for events in SIZES {
+        for (name, sources_and_sinks) in [("few", 10), ("many", 3 * events / 10)] {
+            for (result, number) in [("accepted", 0), ("refused", 14)] {
+                let name = format!("{events} {result} {name}");
+                cases.push(Case { listed: true, ..case(name, number, events, sources_and_sinks) });
+            }
         }
     }
-    Case::new("zigzags", 0, &shuffles(&mut Rng::new(1), &sketch))
+    cases
 }
 
 /// Charts with the given number of sources and sinks: drawn for 0, with another outer face for 14.
 fn case(name: String, number: u16, events: usize, sources_and_sinks: usize) -> Case {
     let mut rng = Rng::new(events as u64);
+    let plan = Plan { events, arrows: events - 1, most_sources_and_sinks: sources_and_sinks };
+    let fits = |chart: &Chart| {
+        let drawing = Drawing::new(chart.clone()).expect("a drawing");
+        drawing.sources_and_sinks().len() == sources_and_sinks && examine(&chart.bytes()).number() == number
+    };
+    let chart = |rng: &mut Rng| upward(rng, plan);
+    Case::new(name, number, &fitting(&mut rng, chart, fits))
+}
+
+/// Charts that fit, each from a sketch of its own, and with another outer face where the sketch's own does not do.
+fn fitting(rng: &mut Rng, make: impl Fn(&mut Rng) -> Sketch, fits: impl Fn(&Chart) -> bool) -> Vec<Chart> {
     let mut charts = Vec::new();
     while charts.len() < CHARTS {
-        let plan = Plan { events, arrows: events - 1, most_sources_and_sinks: sources_and_sinks };
-        let mut sketch = upward(&mut rng, plan);
+        let mut sketch = make(rng);
         for _ in 0..20 {
-            let chart = sketch.shuffled(&mut rng);
-            let drawing = Drawing::new(chart.clone()).expect("a drawing");
-            let bare = drawing.sources_and_sinks().len();
-            if bare == sources_and_sinks && examine(&chart.bytes()).number() == number {
+            let chart = sketch.shuffled(rng);
+            if fits(&chart) {
                 charts.push(chart);
                 break;
             }
             sketch.outer = rng.below(sketch.darts());
         }
     }
-    Case::new(name, number, &charts)
+    charts
+}
+
+/// Trees, grids and so on, of about so many events.
+fn of_every_kind(events: usize) -> Vec<Case> {
+    let mut rng = Rng::new(events as u64 + 1);
+    let columns = [10, 20, 25][SIZES.iter().position(|&size| size == events).expect("one of the sizes")];
+    let rows = events / columns;
+    let mut cases = Vec::new();
+    let mut add = |name: &str, results: &[u16], make: &dyn Fn(&mut Rng) -> Sketch| {
+        for &number in results {
+            let name = format!("{name} {events} {}", if number == 0 { "accepted" } else { "refused" });
+            let charts = fitting(&mut rng, make, |chart| examine(&chart.bytes()).number() == number);
+            cases.push(Case::new(name, number, &charts));
+        }
+    };
+    add("tree", &[0], &|rng| kinds::tree(rng, events));
+    add("grid", &[0, 14], &|_| kinds::grid(columns, rows));
+    add("board", &[0], &|_| kinds::board(columns, rows));
+    add("ladder", &[0, 14], &|_| kinds::ladder(events / 2));
+    add("cage", &[0], &|_| kinds::cage(columns, rows - 1, false));
+    add("cage", &[14], &|_| kinds::cage(columns, rows - 1, true));
+    add("zigzags", &[0], &|_| kinds::zigzags(6, events / 6 - 1));
+    add("blocks", &[0], &|rng| kinds::blocks(rng, events, true));
+    add("blocks", &[14], &|rng| kinds::blocks(rng, events, false));
+    add("dense", &[0, 14], &|rng| kinds::dense(rng, events));
+    cases
+}
+
+/// Charts of so many events that get the numbers 10 to 13.
+fn refused_early(events: usize) -> Vec<Case> {
+    let mut rng = Rng::new(events as u64 + 2);
+    let drawn = |rng: &mut Rng, events: usize| {
+        upward(rng, Plan { events, arrows: events - 1, most_sources_and_sinks: 3 * events / 10 })
+    };
+    let chart = |rng: &mut Rng, number: u16| match number {
+        10 => {
+            let (mut chart, other) = (drawn(rng, events / 2).shuffled(rng), drawn(rng, events / 2).shuffled(rng));
+            make::lay_beside(&mut chart, &other);
+            chart
+        }
+        11 => {
+            let mut chart = drawn(rng, events).shuffled(rng);
+            make::reorder_some(rng, &mut chart);
+            chart
+        }
+        12 => {
+            let mut sketch = drawn(rng, events);
+            let arrow = rng.below(sketch.arrows());
+            sketch.turn(arrow);
+            sketch.shuffled(rng)
+        }
+        _ => {
+            let mut sketch = drawn(rng, events);
+            make::turn_some(rng, &mut sketch);
+            sketch.shuffled(rng)
+        }
+    };
+    let mut case = |(name, number): (&str, u16)| {
+        let mut charts = Vec::new();
+        while charts.len() < CHARTS {
+            let chart = chart(&mut rng, number);
+            if examine(&chart.bytes()).number() == number {
+                charts.push(chart);
+            }
+        }
+        Case::new(format!("{number} {name} {events}"), number, &charts)
+    };
+    [("parted", 10), ("crossing", 11), ("mixed", 12), ("circle", 13)].into_iter().map(&mut case).collect()
+}
+
+/// The charts with the longest searches that are known, and the hubs with leaves in their gaps.
+fn slow(events: usize) -> Vec<Case> {
+    let mut rng = Rng::new(events as u64 + 3);
+    let arms: Vec<Chart> = (0..CHARTS).map(|_| slow::arms_of(&mut rng, events).chart()).collect();
+    let mut cases = vec![Case::new(format!("slow arms {events}"), 0, &arms)];
+    for layers in [1, 2] {
+        let charts: Vec<Chart> = (0..CHARTS).map(|_| slow::layers_of(&mut rng, layers, events).chart()).collect();
+        cases.push(Case::new(format!("slow {layers} layers {events}"), 0, &charts));
+    }
+    let gaps: Vec<Chart> = (0..CHARTS).map(|_| slow::gaps_of(&mut rng, events).chart()).collect();
+    cases.push(Case::new(format!("slow gaps {events}"), 0, &gaps));
+    cases
+}
+
+/// Charts of 1 to 10 arrows.
+fn tiny() -> Vec<Case> {
+    let mut rng = Rng::new(11);
+    let mut case = |(name, number, arrows): (&str, u16, RangeInclusive<usize>)| {
+        let mut charts = Vec::new();
+        while charts.len() < CHARTS {
+            let chart = make::exactly(&mut rng, number, Size::Small);
+            if arrows.contains(&word(&chart, 7)) {
+                charts.push(chart);
+            }
+        }
+        Case::of_files(name, number, charts)
+    };
+    let kinds = [
+        ("tiny 1 arrow", 0, 1..=1),
+        ("tiny 2 to 4 arrows", 0, 2..=4),
+        ("tiny 5 to 10 arrows", 0, 5..=10),
+        ("tiny refused", 14, 4..=10),
+        ("tiny 9 order", 9, 4..=10),
+        ("tiny 10 parted", 10, 4..=10),
+        ("tiny 11 crossing", 11, 4..=10),
+        ("tiny 12 mixed", 12, 4..=10),
+        ("tiny 13 circle", 13, 4..=10),
+    ];
+    kinds.into_iter().map(&mut case).collect()
 }
 
 /// The sketch with its events and arrows numbered in several ways.

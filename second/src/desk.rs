@@ -64,6 +64,29 @@ pub fn library() -> Result<Box<dyn Desk>, &'static str> {
     return Err("built without libexport.a: build the archive, name its folder in RINSHOLUPE_LIB_DIR, build again");
 }
 
+/// The first of the four calls, alone.
+pub type Test = fn(&[u8], &mut [u8]) -> u32;
+
+/// The library's test before a change, where the archive of that version is linked too: its symbols have a prefix.
+pub fn test_before() -> Option<Test> {
+    #[cfg(before)]
+    return Some(before::test);
+    #[cfg(not(before))]
+    return None;
+}
+
+#[cfg(before)]
+mod before {
+    unsafe extern "C" {
+        fn before_rinsholupe_test(chart: *const u8, chart_len: usize, report: *mut u8, report_len: usize) -> u32;
+    }
+
+    // As below.
+    pub fn test(chart: &[u8], report: &mut [u8]) -> u32 {
+        unsafe { before_rinsholupe_test(chart.as_ptr(), chart.len(), report.as_mut_ptr(), report.len()) }
+    }
+}
+
 #[cfg(any(archive, feature = "stub"))]
 mod archive {
     use super::Desk;

@@ -177,18 +177,22 @@ fn no_room(rng: &mut Rng, size: Size) -> Chart {
 /// Aimed at 13.
 fn circling(rng: &mut Rng, size: Size) -> Chart {
     if rng.one_in(3) {
-        // A drawing with some arrows turned round where that mixes no event.
         let mut sketch = drawn(rng, size);
-        for _ in 0..1 + rng.below(sketch.events) {
-            let arrow = rng.below(sketch.arrows());
-            sketch.turn(arrow);
-            if [2 * arrow, 2 * arrow + 1].iter().any(|&dart| sketch.changes[sketch.at[dart]] > 2) {
-                sketch.turn(arrow);
-            }
-        }
+        turn_some(rng, &mut sketch);
         sketch.shuffled(rng)
     } else {
         grown(rng, size, Aim { numbered: false, unmixed: true }).shuffled(rng)
+    }
+}
+
+/// Turns some arrows round where that mixes no event.
+pub fn turn_some(rng: &mut Rng, sketch: &mut Sketch) {
+    for _ in 0..1 + rng.below(sketch.events) {
+        let arrow = rng.below(sketch.arrows());
+        sketch.turn(arrow);
+        if [2 * arrow, 2 * arrow + 1].iter().any(|&dart| sketch.changes[sketch.at[dart]] > 2) {
+            sketch.turn(arrow);
+        }
     }
 }
 
@@ -201,10 +205,7 @@ fn parted(rng: &mut Rng, size: Size) -> Chart {
     } else {
         let other = any(rng, Size::Small);
         if chart.events + other.events <= MOST_EVENTS && chart.arrows.len() + other.arrows.len() <= MOST_ARROWS {
-            let (events, darts) = (chart.events, chart.darts());
-            chart.arrows.extend(other.arrows.iter().map(|&(tail, head)| (tail + events, head + events)));
-            chart.next.extend(other.next.iter().map(|&dart| dart + darts));
-            chart.events += other.events;
+            lay_beside(&mut chart, &other);
         }
     }
     let names = rng.order(chart.events);
@@ -214,17 +215,30 @@ fn parted(rng: &mut Rng, size: Size) -> Chart {
     chart
 }
 
+/// Lays another chart beside a chart, not joined with it.
+pub fn lay_beside(chart: &mut Chart, other: &Chart) {
+    let (events, darts) = (chart.events, chart.darts());
+    chart.arrows.extend(other.arrows.iter().map(|&(tail, head)| (tail + events, head + events)));
+    chart.next.extend(other.next.iter().map(|&dart| dart + darts));
+    chart.events += other.events;
+}
+
 /// Aimed at 11: true rings in an order that no plane shows.
 fn crossing(rng: &mut Rng, size: Size) -> Chart {
     let mut chart = if rng.one_in(3) { wild(rng, size) } else { any(rng, size) };
-    if let Some(rings) = rings(&chart) {
+    reorder_some(rng, &mut chart);
+    chart
+}
+
+/// Gives the rings of some events, if there are rings, another order.
+pub fn reorder_some(rng: &mut Rng, chart: &mut Chart) {
+    if let Some(rings) = rings(chart) {
         for _ in 0..1 + rng.below(3) {
             let mut ring = rings[rng.below(chart.events)].clone();
             rng.shuffle(&mut ring);
-            set_ring(&mut chart, &ring);
+            set_ring(chart, &ring);
         }
     }
-    chart
 }
 
 /// Makes the darts, all at one event, follow each other.

@@ -123,6 +123,63 @@ impl Sketch {
         }
     }
 
+    /// Takes away one of at least two arrows, and an end of it that has no other arrow; answers that event. The last
+    /// arrow and the last event get the numbers that fall free.
+    pub fn remove(&mut self, arrow: usize) -> Option<usize> {
+        if self.outer / 2 == arrow {
+            let far = twin(self.outer);
+            let after = self.next[far];
+            self.outer = if after == far { self.next[self.outer] } else { after };
+        }
+        let mut alone = None;
+        for dart in [2 * arrow, 2 * arrow + 1] {
+            let (before, after) = (self.prev[dart], self.next[dart]);
+            if before == dart {
+                alone = Some(self.at[dart]);
+                continue;
+            }
+            self.next[before] = after;
+            self.prev[after] = before;
+            self.changes[self.at[dart]] = self.changes_round(before);
+        }
+        let last = self.darts() - 2;
+        for side in [0, 1] {
+            self.rename(last + side, 2 * arrow + side);
+        }
+        for row in [&mut self.at, &mut self.next, &mut self.prev] {
+            row.truncate(last);
+        }
+        self.leaves.truncate(last);
+        if let Some(event) = alone {
+            self.events -= 1;
+            self.changes.swap_remove(event);
+            for at in self.at.iter_mut().filter(|at| **at == self.events) {
+                *at = event;
+            }
+        }
+        alone
+    }
+
+    /// Gives a dart the number of one that is in no ring any more.
+    fn rename(&mut self, dart: usize, number: usize) {
+        if dart == number {
+            return;
+        }
+        self.at[number] = self.at[dart];
+        self.leaves[number] = self.leaves[dart];
+        let (before, after) = (self.prev[dart], self.next[dart]);
+        let alone = before == dart;
+        self.next[number] = if alone { number } else { after };
+        self.prev[number] = if alone { number } else { before };
+        if !alone {
+            self.next[before] = number;
+            self.prev[after] = number;
+        }
+        if self.outer == dart {
+            self.outer = number;
+        }
+    }
+
     /// Turns an arrow round.
     pub fn turn(&mut self, arrow: usize) {
         for dart in [2 * arrow, 2 * arrow + 1] {

@@ -130,6 +130,18 @@ fn compare_compares() {
     }
 }
 
+#[test]
+fn slowest_climbs() {
+    let slowest = env!("CARGO_BIN_EXE_slowest");
+    let output = run(slowest, &["1", "30", "20", "slowest.evc"], b"");
+    assert!(output.status.success(), "{}", String::from_utf8_lossy(&output.stderr));
+    let file = std::path::Path::new(env!("CARGO_TARGET_TMPDIR")).join("slowest.evc");
+    assert!(second::same::steps(&std::fs::read(file).expect("a chart")).1 > 0);
+    for words in [&[][..], &["1"], &["1", "30"], &["1", "29", "20"], &["1", "1025", "20"], &["x", "30", "20"]] {
+        assert_eq!(run(slowest, words, b"").status.code(), Some(2), "{words:?}");
+    }
+}
+
 #[cfg(feature = "stub")]
 #[test]
 fn compare_stops_at_a_difference() {

@@ -7,7 +7,7 @@ use second::order::{Break, Ordered, Place};
 use second::rng::Rng;
 use second::spoil::{damage, limits};
 use second::stand_in::StandIn;
-use second::{same, small, table};
+use second::{grow, kinds, same, slow, small, table};
 
 /// The right stand-in, but for the test.
 struct Same;
@@ -76,5 +76,51 @@ fn same_agrees_on_broken_orders() {
                 comparison.chart(&broken.bytes()).unwrap_or_else(|difference| panic!("{kind:?}: {difference:?}"));
             }
         }
+    }
+}
+
+/// Charts where many are left over and moved, of every size of tables and just beyond.
+#[test]
+fn same_agrees_where_it_searches() {
+    let mut rng = Rng::new(36);
+    let mut comparison = Comparison::new(&Same, 37);
+    comparison.reports = 0;
+    let mut searched = 0;
+    for round in 0..3000 {
+        let events = *rng.pick(&[8, 31, 32, 33, 34, 63, 64, 65, 66]);
+        let events = if round % 100 == 0 { *rng.pick(&[255, 256, 257, 258, 1023, 1024]) } else { events };
+        let mut sketch = match rng.below(5) {
+            0 => kinds::zigzags(rng.between(2, 4), events / 4 - 1),
+            1 => kinds::board(2, events / 2),
+            2 => kinds::blocks(&mut rng, events, true),
+            3 => kinds::tree(&mut rng, events),
+            _ => {
+                let (arrows, dead_ends) = (events + rng.below(events), rng.below(10));
+                let aim = grow::Aim { numbered: true, unmixed: true };
+                grow::grow(&mut rng, grow::Plan { events, arrows, dead_ends, doubles: true, aim })
+            }
+        };
+        sketch.outer = rng.below(sketch.darts());
+        let chart = sketch.shuffled(&mut rng).bytes();
+        searched += usize::from(same::steps(&chart).1 > 0);
+        comparison.chart(&chart).unwrap_or_else(|difference| panic!("{difference:?}"));
+    }
+    assert!(searched > 1000, "{searched}");
+    for events in [30, 64, 65, 256, 257, 1024] {
+        for trial in [slow::arms_of(&mut rng, events), slow::layers_of(&mut rng, 2, events)] {
+            let chart = trial.chart().bytes();
+            comparison.chart(&chart).unwrap_or_else(|difference| panic!("{difference:?}"));
+        }
+    }
+}
+
+#[test]
+fn counting_changes_nothing() {
+    let mut rng = Rng::new(38);
+    let mut room = vec![0; second::report::FULL_ROOM];
+    for _ in 0..500 {
+        let number = *rng.pick(&NUMBERS);
+        let chart = aimed(&mut rng, number, Size::Middle);
+        assert_eq!(same::steps(&chart).0, same::test(&chart, &mut room).0);
     }
 }

@@ -15,7 +15,7 @@ use Rattle.drawing.specs.Drawing.{Drawing, darts, event, after, plain, changes}
 use Rattle.drawing.specs.Conditions.{Rings}
 use Rattle.drawing.proofs.Rounds.{after-inj, after-reach, reach-stays}
 use Rattle.finite.proofs.Ahead.{ahead, orbit-nearer}
-use Rattle.climb.proofs.Along.{along-class}
+use Rattle.finite.proofs.Along.{along-class}
 
 module _ (g : Drawing) (R : Rings g) (d : ℕ) (l : d < darts g) where
   abbrev x : ℕ → ℕ

@@ -14,7 +14,7 @@ use Rattle.drawing.proofs.Climb.{climbs-none}
 use Rattle.words.specs.Tables.{nth}
 use Rattle.climb.specs.Peel.{between, Peeled}
 use Rattle.climb.specs.Back.{Kept}
-use Rattle.climb.proofs.Along.{along-missed}
+use Rattle.finite.proofs.Along.{along-missed}
 use Rattle.climb.proofs.Peels.{between-arrow, comers-between, waiting-few}
 
 module _ (g : Drawing) (known : EventsKnown g) (left list : List ℕ) (t : ℕ) (P : Peeled g left list t t) where

@@ -1,4 +1,3 @@
-pub mod Along
 pub mod Changes
 pub mod Freeing
 pub mod Mixed

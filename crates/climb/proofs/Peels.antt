@@ -24,7 +24,7 @@ use Rattle.words.specs.Tables.{nth}
 use Rattle.chart.specs.Held.{Firsts}
 use Rattle.climb.specs.Peel.{toward, comers, between, Waiting, Ready, Same, Freed, entered, fewer, last, Held, Peeled}
 use Rattle.finite.proofs.Ahead.{ahead}
-use Rattle.climb.proofs.Along.{along-le, along-all}
+use Rattle.finite.proofs.Along.{along-le, along-all}
 use Rattle.climb.proofs.Changes.{ring-sum, ring-part, ring-nearer}
 
 -- ---- darts and arrows

@@ -1,7 +1,7 @@
 // Tests 12 and 13: the changes of direction round an event, the lowest mixed event, a circle or none.
 ghost use mathlib.Core.Path.{_≡_};
 ghost use Prim.Native.Nat.{_+_, _≤_, _<_};
-ghost use lib.ListN.{length};
+ghost use lib.ListN.{length, replicate};
 ghost use Rattle.finite.specs.Says.{Says};
 ghost use Rattle.drawing.specs.Drawing.{arrows, event, enters, changes};
 ghost use Rattle.drawing.specs.Conditions.{EventsKnown, Rings};
@@ -54,12 +54,11 @@ pub fn lowest_mixed(chart: &[u8], n: usize, first: &[u16]) -> usize
     65535
 }
 
-// Fills left with the number of arrows that enter each event.
+// Fills left, which comes with 0 for each event, with the number of arrows that enter each event.
 fn count_entering(chart: &[u8], n: usize, left: &mut [u16])
-    requires { ⌜ Shape (now chart) n × EventsKnown (drawing (now chart)) × (length (now left) ≡ drawing (now chart) .events) ⌝ }
+    requires { ⌜ Shape (now chart) n × EventsKnown (drawing (now chart)) × (now left ≡ replicate (drawing (now chart) .events) 0) ⌝ }
     ensures { λ _. ⌜ Counted (drawing (now (chart .entry))) (now (left .exit)) ⌝ }
 {
-    words::fill(left, 0);
     let mut a = 0;
     while a < n / 2 {
         let v = chart::event_of(chart, n, 2 * a + 1);
@@ -142,7 +141,7 @@ fn peel_one(
 // Takes away events that no arrow enters, with their arrows, as long as there are any; answers how many went.
 fn peel_all(chart: &[u8], n: usize, first: &[u16], left: &mut [u16], list: &mut [u16]) -> usize
     requires { ⌜ Shape (now chart) n × EventsKnown (drawing (now chart)) × Rings (drawing (now chart)) × Firsts (drawing (now chart)) (now first) ⌝ }
-    requires { ⌜ (length (now left) ≡ drawing (now chart) .events) × (length (now list) ≡ drawing (now chart) .events) ⌝ }
+    requires { ⌜ (now left ≡ replicate (drawing (now chart) .events) 0) × (length (now list) ≡ drawing (now chart) .events) ⌝ }
     ensures { λ r. ⌜ Peeled (drawing (now (chart .entry))) (now (left .exit)) (now (list .exit)) r r ⌝ }
 {
     count_entering(chart, n, left);
@@ -288,34 +287,47 @@ fn write_circle(chart: &[u8], n: usize, left: &[u16], into: &mut [u16], out: &mu
     m
 }
 
-// The same as find_circle, with the tables lent: the arrows left at each event, the list of events gone, an entering arrow of each event.
-fn circle_by(
+// The same with a table of its own, of an entering arrow of each of a few events: only a chart with a circle pays for it.
+fn circle_few(chart: &[u8], n: usize, left: &[u16], out: &mut [u16]) -> usize
+    requires { ⌜ Shape (now chart) n × EventsKnown (drawing (now chart)) × Kept (drawing (now chart)) (now left) ⌝ }
+    requires { ⌜ (length (now left) ≡ drawing (now chart) .events) × (length (now left) ≤ 32) × (length (now out) ≡ drawing (now chart) .events) ⌝ }
+    ensures { λ r. ⌜ CircleFound (drawing (now (chart .entry))) (now (out .exit)) r ⌝ }
+{
+    let mut into = [0u16; 32];
+    let v = left.len();
+    write_circle(chart, n, left, &mut into[0..v], out)
+}
+
+// The same of any events.
+fn circle_any(chart: &[u8], n: usize, left: &[u16], out: &mut [u16]) -> usize
+    requires { ⌜ Shape (now chart) n × EventsKnown (drawing (now chart)) × Kept (drawing (now chart)) (now left) ⌝ }
+    requires { ⌜ (length (now left) ≡ drawing (now chart) .events) × (length (now out) ≡ drawing (now chart) .events) ⌝ }
+    ensures { λ r. ⌜ CircleFound (drawing (now (chart .entry))) (now (out .exit)) r ⌝ }
+{
+    let mut into = [0u16; 1024];
+    let v = left.len();
+    write_circle(chart, n, left, &mut into[0..v], out)
+}
+
+// Writes the arrows of a circle, its lowest arrow first, and answers how many it has; or answers 0 where there is no circle. The table left comes with
+// 0 for each event, and goes with the arrows left there.
+pub fn find_circle(
     chart: &[u8],
     n: usize,
     first: &[u16],
     left: &mut [u16],
-    into: &mut [u16],
     out: &mut [u16],
 ) -> usize
     requires { ⌜ Shape (now chart) n × EventsKnown (drawing (now chart)) × Rings (drawing (now chart)) × Firsts (drawing (now chart)) (now first) ⌝ }
-    requires { ⌜ (length (now left) ≡ drawing (now chart) .events) × (length (now into) ≡ drawing (now chart) .events) × (length (now out) ≡ drawing (now chart) .events) ⌝ }
+    requires { ⌜ (now left ≡ replicate (drawing (now chart) .events) 0) × (length (now out) ≡ drawing (now chart) .events) ⌝ }
     ensures { λ r. ⌜ CircleFound (drawing (now (chart .entry))) (now (out .exit)) r ⌝ }
 {
     let gone = peel_all(chart, n, first, left, out);
     if first.len() <= gone {
         return 0;
     }
-    write_circle(chart, n, left, into, out)
-}
-
-// Writes the arrows of a circle, its lowest arrow first, and answers how many it has; or answers 0 where there is no circle.
-pub fn find_circle(chart: &[u8], n: usize, first: &[u16], out: &mut [u16]) -> usize
-    requires { ⌜ Shape (now chart) n × EventsKnown (drawing (now chart)) × Rings (drawing (now chart)) × Firsts (drawing (now chart)) (now first) ⌝ }
-    requires { ⌜ length (now out) ≡ drawing (now chart) .events ⌝ }
-    ensures { λ r. ⌜ CircleFound (drawing (now (chart .entry))) (now (out .exit)) r ⌝ }
-{
-    let mut left = [0u16; 1024];
-    let mut into = [0u16; 1024];
-    let v = first.len();
-    circle_by(chart, n, first, &mut left[0..v], &mut into[0..v], out)
+    if left.len() <= 32 {
+        return circle_few(chart, n, left, out);
+    }
+    circle_any(chart, n, left, out)
 }

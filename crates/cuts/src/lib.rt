@@ -46,7 +46,7 @@ fn take_room(
     c: usize,
 ) -> usize
     requires { ⌜ Sized (now chart) n (now here) (now poles) (now spare) × (c < n) ⌝ }
-    ensures { λ r. ⌜ Taken (drawing (now (chart .entry))) (now (poles .entry)) (now (spare .entry)) c r (now (spare .exit)) ⌝ }
+    ensures { λ r. ⌜ Taken (drawing (now (chart .entry))) (now (here .entry)) (now (poles .entry)) (now (spare .entry)) c r (now (spare .exit)) ⌝ }
 {
     let e = chart::event_of(chart, n, c);
     if words::get(poles, e) != 2 {
@@ -61,7 +61,7 @@ fn take_room(
 // The room of the faces that the marked events touch, each counted once: it is taken out at the first corner.
 fn touched_room(chart: &[u8], n: usize, here: &[u16], poles: &[u16], spare: &mut [u16]) -> usize
     requires { ⌜ Sized (now chart) n (now here) (now poles) (now spare) ⌝ }
-    ensures { λ r. ⌜ Swept (drawing (now (chart .entry))) (now (poles .entry)) (now (spare .entry)) n r (now (spare .exit)) ⌝ }
+    ensures { λ r. ⌜ Swept (drawing (now (chart .entry))) (now (here .entry)) (now (poles .entry)) (now (spare .entry)) n r (now (spare .exit)) ⌝ }
 {
     let mut total = 0;
     let mut c = 0;

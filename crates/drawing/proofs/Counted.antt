@@ -3,8 +3,9 @@
 --   Level g             the successors add up to what the darts add up to
 --   Circled g d k       going on from d, d comes again after k steps, and not before
 --   OneRing g v         each dart of the event v leads to each
---   Counted g v met     what met darts, on one ring at each event below v, tell: they are no more than these events have, as many only if each
---                       of these is one ring, and as many if every event is
+--   Tally g x k met     what met darts, on one ring at each of the k events x 0, x 1 .., tell: they are no more than these events have, as many
+--                       only if each of these is one ring, and as many if every event is
+--   Turns g x k         the k events x 0, x 1 .. are events of g, each once
 use mathlib.Core.Path.{_≡_, refl, sym, ap, _∙_}
 use mathlib.Core.Logic.{_≢_, _↔_}
 use Prim.Native.Nat.{ℕ, suc, _+_, _-_, _*_, _<_, _≤_}
@@ -12,11 +13,11 @@ use native.Mathlib.Decide.{ℕ-discrete, decLe}
 use native.Mathlib.Numerals.{add-one}
 use native.Mathlib.Omega.{arith}
 use Rattle.finite.specs.Sums.{sum, δ, class}
-use Rattle.finite.specs.Steps.{iter, Inj}
-use Rattle.finite.proofs.Decide.{any?}
-use Rattle.finite.proofs.Sum.{sum-mono, sum-term, sum-zero, sum-const, sum-tight, sum-prefix, δ-eq, δ-other}
-use Rattle.finite.proofs.Class.{class-total, class-zero}
+use Rattle.finite.specs.Steps.{iter, Inj, Into}
+use Rattle.finite.proofs.Sum.{sum-cong, sum-mono, sum-const, sum-tight, δ-eq}
+use Rattle.finite.proofs.Class.{class-total, class-zero, class-term}
 use Rattle.finite.proofs.Perm.{fibre, fibre-le, fibre-total, inj-le, reindex}
+use Rattle.finite.proofs.Along.{fibre-none, fibre-met, along-le, along-all, along-class}
 use Rattle.finite.proofs.Orbit.{cycle, fresh-inj, iter-add, open-inj}
 use Rattle.drawing.specs.Drawing.{Drawing, darts, event, after}
 use Rattle.drawing.specs.Conditions.{EventsKnown, Rings}
@@ -36,10 +37,13 @@ pub record Circled (g : Drawing) (d k : ℕ) : Type 0 where
 abbrev pub OneRing : Drawing → ℕ → Type 0
 OneRing g v = (d e : ℕ) → d < darts g → e < darts g → event g d ≡ v → event g e ≡ v → (k : ℕ) × (k < darts g) × (iter (after g) k d ≡ e)
 
-pub record Counted (g : Drawing) (v met : ℕ) : Type 0 where
-  pub most : met ≤ sum v (around g)
-  pub whole : met ≡ sum v (around g) → (u : ℕ) → u < v → OneRing g u
-  pub exact : Rings g → met ≡ sum v (around g)
+pub record Tally (g : Drawing) (x : ℕ → ℕ) (k met : ℕ) : Type 0 where
+  pub most : met ≤ sum k (λ i. around g (x i))
+  pub whole : met ≡ sum k (λ i. around g (x i)) → (i : ℕ) → i < k → OneRing g (x i)
+  pub exact : Rings g → met ≡ sum k (λ i. around g (x i))
+
+abbrev pub Turns : Drawing → (ℕ → ℕ) → ℕ → Type 0
+Turns g x k = Into k (g .events) x × Inj k x
 
 -- the successors in rings are the darts in another order
 pub rings-level : (g : Drawing) → Rings g → Level g
@@ -61,10 +65,7 @@ module _ (g : Drawing) (K : Kept g) (d : ℕ) (l : d < darts g) where
     held : (e : ℕ) → e < darts g → fibre m (λ j. iter (after g) j d) e ≤ δ (event g e) (event g d) * 1
     held e h = elim (ℕ-discrete (event g e) (event g d)) [
       | yes q ↦ omega (arith, fibre-le m (λ j. iter (after g) j d) once e, δ-eq (event g e) (event g d) q)
-      | no q ↦ omega (
-        arith,
-        sum-zero m (λ j. δ (iter (after g) j d) e) (λ j i. δ-other (iter (after g) j d) e (λ r. q (ap (event g) (sym r) ∙ goes-there g K j d l))),
-      )
+      | no q ↦ omega (arith, fibre-none m (λ j. iter (after g) j d) e (λ j i r. q (ap (event g) (sym r) ∙ goes-there g K j d l)))
     ]
 
     pub walk-most : m ≤ around g (event g d)
@@ -79,19 +80,10 @@ module _ (g : Drawing) (K : Kept g) (d : ℕ) (l : d < darts g) where
     pub walk-whole : m ≡ around g (event g d) → (e : ℕ) → e < darts g → event g e ≡ event g d → (j : ℕ) × (j < m) × (iter (after g) j d ≡ e)
     unfolding around class
     walk-whole q e h r =
-        elim (any? m (λ j. iter (after g) j d ≡ e) (λ j. ℕ-discrete (iter (after g) j d) e)) [
-          | yes t ↦ t
-          | no none ↦
-              let tight =
-              sum-tight (darts g) (fibre m (λ j. iter (after g) j d)) (λ x. δ (event g x) (event g d) * 1) held
-              (fibre-total m (darts g) (λ j. iter (after g) j d) into ∙ q) e h in
-              absurd (omega (
-                arith,
-                tight,
-                δ-eq (event g e) (event g d) r,
-                sum-zero m (λ j. δ (iter (after g) j d) e) (λ j i. δ-other (iter (after g) j d) e (λ s. none (j, i, s))),
-              ))
-        ]
+        let tight =
+        sum-tight (darts g) (fibre m (λ j. iter (after g) j d)) (λ x. δ (event g x) (event g d) * 1) held
+        (fibre-total m (darts g) (λ j. iter (after g) j d) into ∙ q) e h in
+        fibre-met m (λ j. iter (after g) j d) e (omega (arith, tight, δ-eq (event g e) (event g d) r))
 
   -- ---- a walk that comes back to d
 
@@ -129,88 +121,106 @@ module _ (g : Drawing) (K : Kept g) (d : ℕ) (l : d < darts g) where
 
     -- where each event's darts are one ring, this is all of it
     pub ring-exact : Rings g → k ≡ around g (event g d)
-    unfolding around class
+    unfolding around
     ring-exact R =
         omega (
           arith,
-          ring-most,
-          fibre-total k (darts g) (λ j. iter (after g) j d) (into k once),
-          sum-mono (darts g) (λ e. δ (event g e) (event g d) * 1) (fibre k (λ j. iter (after g) j d)) (λ e h. elim (ℕ-discrete (event g e) (event g d)) [
-            | yes q ↦
-                let t = R .meets d e l h (sym q) in
-                let c = cycle (after g) d k (C .some) (C .back) (t .0) in
-                omega (
-                  arith,
-                  δ-eq (event g e) (event g d) q,
-                  sum-term k (λ j. δ (iter (after g) j d) e) (c .0) (c .1),
-                  δ-eq (iter (after g) (c .0) d) e (sym (c .2) ∙ t .2),
-                )
-            | no q ↦ omega (arith, δ-other (event g e) (event g d) q)
-          ]),
+          sum-const k 1,
+          along-class k (darts g) (λ j. iter (after g) j d) (event g) (λ c. 1) (event g d) (into k once) once (λ j i. goes-there g K j d l) (λ e h q.
+              let t = R .meets d e l h (sym q) in
+              let c = cycle (after g) d k (C .some) (C .back) (t .0) in
+              (c .0, c .1, sym (c .2) ∙ t .2)),
         )
 
 -- ---- events in turn
 
 -- no event yet
-pub counted-none : (g : Drawing) → Counted g 0 0
+pub tally-none : (g : Drawing) (x : ℕ → ℕ) → Tally g x 0 0
 unfolding sum
-counted-none g = record { most = omega arith; whole = λ q u l. absurd (omega arith); exact = λ R. refl }
+tally-none g x = record { most = omega arith; whole = λ q i l. absurd (omega arith); exact = λ R. refl }
 
-module _ (g : Drawing) (v met : ℕ) (I : Counted g v met) where
-  one-more : sum (v + 1) (around g) ≡ sum v (around g) + around g v
+-- the same events, told in another way
+pub tally-same : (g : Drawing) (x y : ℕ → ℕ) (k met : ℕ) → ((i : ℕ) → i < k → y i ≡ x i) → Tally g x k met → Tally g y k met
+tally-same g x y k met same I = record {
+  most = omega (arith, I .most, alike);
+  whole = λ q i l. rw (same i l) (I .whole (omega (arith, alike)) i l);
+  exact = λ R. omega (arith, I .exact R, alike);
+}
+  where
+    alike : sum k (λ i. around g (y i)) ≡ sum k (λ i. around g (x i))
+    alike = sum-cong k (λ i. around g (y i)) (λ i. around g (x i)) (λ i l. ap (around g) (same i l))
+
+-- all events have no more than all darts
+pub turns-few : (g : Drawing) → EventsKnown g → (x : ℕ → ℕ) (k : ℕ) → Turns g x k → sum k (λ i. around g (x i)) ≤ darts g
+turns-few g E x k T = omega (arith, along-le k (g .events) x (around g) (T .0) (T .1), around-total g E)
+
+-- and as many, where each event has its turn
+pub turns-all : (g : Drawing) → EventsKnown g → (x : ℕ → ℕ) (k : ℕ) → k ≡ g .events → Turns g x k → sum k (λ i. around g (x i)) ≡ darts g
+turns-all g E x k q T = rw q (reindex (g .events) x (rw q at (T .1)) (rw q at (T .0)) (around g) ∙ around-total g E)
+
+module _ (g : Drawing) (x : ℕ → ℕ) (k met : ℕ) (I : Tally g x k met) where
+  one-more : sum (k + 1) (λ i. around g (x i)) ≡ sum k (λ i. around g (x i)) + around g (x k)
   unfolding sum
   one-more = rw add-one refl
 
   -- an event without darts has nothing to follow
-  pub counted-skip : ((d : ℕ) → d < darts g → event g d ≢ v) → Counted g (v + 1) met
+  pub tally-skip : ((d : ℕ) → d < darts g → event g d ≢ x k) → Tally g x (k + 1) met
   unfolding around
-  counted-skip none = record {
+  tally-skip none = record {
     most = omega (arith, one-more, I .most);
-    whole = λ q u l. elim (ℕ-discrete u v) [
-      | yes e ↦ λ d x h i r s. absurd (none d h (r ∙ e))
-      | no e ↦ I .whole (omega (arith, one-more, empty)) u (omega arith)
+    whole = λ q i l. elim (ℕ-discrete i k) [
+      | yes e ↦ λ d c h j r s. absurd (none d h (r ∙ ap x e))
+      | no e ↦ I .whole (omega (arith, one-more, empty)) i (omega arith)
     ];
     exact = λ R. omega (arith, one-more, empty, I .exact R);
   }
     where
-      empty : around g v ≡ 0
-      empty = class-zero (darts g) (event g) (λ d. 1) v (λ d l q. absurd (none d l q))
+      empty : around g (x k) ≡ 0
+      empty = class-zero (darts g) (event g) (λ d. 1) (x k) (λ d l q. absurd (none d l q))
 
-  module _ (K : Kept g) (d : ℕ) (l : d < darts g) (there : event g d ≡ v) where
-    -- the ring of k darts is followed
-    pub counted-ring : (k : ℕ) → Circled g d k → Counted g (v + 1) (met + k)
-    counted-ring k C = record {
+  module _ (K : Kept g) (d : ℕ) (l : d < darts g) (there : event g d ≡ x k) where
+    -- the ring of so many steps is followed
+    pub tally-ring : (steps : ℕ) → Circled g d steps → Tally g x (k + 1) (met + steps)
+    tally-ring steps C = record {
       most = omega (arith, one-more, I .most, most);
-      whole = λ q u h. elim (ℕ-discrete u v) [
-        | yes e ↦ rw (e, ← there) (ring-whole g K d l k C (omega (arith, one-more, I .most, most, ap (around g) there)))
-        | no e ↦ I .whole (omega (arith, one-more, I .most, most)) u (omega arith)
+      whole = λ q i h. elim (ℕ-discrete i k) [
+        | yes e ↦ rw (e, ← there) (ring-whole g K d l steps C (omega (arith, one-more, I .most, most, ap (around g) there)))
+        | no e ↦ I .whole (omega (arith, one-more, I .most, most)) i (omega arith)
       ];
-      exact = λ R. omega (arith, one-more, I .exact R, ring-exact g K d l k C R, ap (around g) there);
+      exact = λ R. omega (arith, one-more, I .exact R, ring-exact g K d l steps C R, ap (around g) there);
     }
       where
-        most : k ≤ around g v
-        most = rw (← there) (ring-most g K d l k C)
+        most : steps ≤ around g (x k)
+        most = rw (← there) (ring-most g K d l steps C)
 
     -- a walk that does not come back within as many steps as there are darts left
-    pub refuse-open : EventsKnown g → (left : ℕ) → darts g ≤ met + left
+    pub refuse-open : EventsKnown g → Turns g x (k + 1) → (left : ℕ) → darts g ≤ met + left
         → ((j : ℕ) → 0 < j → j ≤ left → iter (after g) j d ≢ d) → Rings g → ⊥
-    refuse-open E left enough none R =
+    refuse-open E T left enough none R =
         omega (
           arith,
           I .exact R,
           walk-most g K d l (suc left) (open-inj (darts g) (after g) (after-inj g R) (R .inside) d (suc left) l (λ j a b. none j a (omega arith))),
           ap (around g) there,
-          sum-prefix v (g .events) (around g) (omega (arith, E d l)),
-          around-total g E,
+          one-more,
+          turns-few g E x (k + 1) T,
         )
 
--- one ring followed at each event: all darts are met exactly if each event's darts are one ring
-pub rings-counted : (g : Drawing) → Kept g → EventsKnown g → (met : ℕ) → Counted g (g .events) met → (met ≡ darts g) ↔ Rings g
-rings-counted g K E met I = (
-  λ q. record {
+  -- all darts are met: the other events have none, and each event's darts are one ring
+  pub rings-whole : Kept g → EventsKnown g → Turns g x k → met ≡ darts g → Rings g
+  unfolding around
+  rings-whole K E T q = record {
     inside = λ d l. K d l .0;
     stays = λ d l. K d l .1;
-    meets = λ d e h i r. I .whole (q ∙ sym (around-total g E)) (event g d) (E d h) d e h i refl (sym r);
-  },
+    meets = λ d e h i r.
+        let all : sum k (λ i. around g (x i)) ≡ sum (g .events) (around g) = omega (arith, I .most, turns-few g E x k T, around-total g E) in
+        let t = along-all k (g .events) x (around g) (T .0) (T .1) all (event g d) (E d h) (class-term (darts g) (event g) (λ c. 1) d h) in
+        I .whole (omega (arith, all, around-total g E)) (t .0) (t .1) d e h i (sym (t .2)) (sym (t .2 ∙ r));
+  }
+
+-- one ring followed at each event: all darts are met exactly if each event's darts are one ring
+pub rings-counted : (g : Drawing) → Kept g → EventsKnown g → (met : ℕ) → Tally g (λ v. v) (g .events) met → (met ≡ darts g) ↔ Rings g
+rings-counted g K E met I = (
+  rings-whole g (λ v. v) (g .events) met I K E (λ v l. l, λ u v l h q. q),
   λ R. I .exact R ∙ around-total g E,
 )

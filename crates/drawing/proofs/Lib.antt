@@ -13,6 +13,5 @@ pub mod Positive
 pub mod Choices
 pub mod Deciders
 pub mod Slips
-pub mod Joins
 pub mod Climb
 pub mod Few

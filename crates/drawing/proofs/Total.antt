@@ -3,20 +3,18 @@
 --   room1-none       and no room1
 --   room1-total      the sum of the rooms, each with one more, is the number of sources and sinks and of faces
 --   room-total       the signed sum of the rooms is the number of sources and sinks
---   table-total      so is the sum of a table of the rooms, where none is below 0
 -- The idea: every corner is a switch or plain. An event that is not mixed has 0 plain corners if it is a source or a sink, and 2 if not. So there are
 -- 2A - 2(V - s) switch corners, with s the number of sources and sinks; half of them, less 1 for each face and 2 more for the outer one, is
 -- A - V - F + 2 + s, which is s.
 use mathlib.Core.Path.{_≡_, sym, ap, _∙_}
 use mathlib.Core.Logic.{_≢_, _⊎_, inl, inr}
 use mathlib.Core.Bool.{true, false, cond}
-use Prim.Native.Nat.{ℕ, _+_, _*_, _/_, _%_, _<_}
-use native.Mathlib.Decide.{ℕ-discrete}
+use Prim.Native.Nat.{ℕ, _+_, _*_, _/_, _%_}
 use native.Mathlib.Omega.{arith}
 use lib.IntN.{pos}
 use Rattle.finite.specs.Sums.{bit, sum, count, δ, class}
 use Rattle.finite.specs.Lists.{sumℤ}
-use Rattle.finite.proofs.Sum.{sum-cong, sum-add, sum-mul, sum-const, sum-δ, δ-eq, δ-other}
+use Rattle.finite.proofs.Sum.{sum-cong, sum-add, sum-mul, sum-const, sum-δ, δ-other}
 use Rattle.finite.proofs.Class.{class-total, class-zero}
 use Rattle.drawing.specs.Drawing.{Drawing, darts, event, face, faces, isFace, outerFace, cornerFace, plain, switch, switches, room, room1, pole, changes}
 use Rattle.drawing.specs.Conditions.{EventsKnown, OuterKnown, Rings, Planar, NoneMixed, RoomTotal}
@@ -80,17 +78,3 @@ module _ (g : Drawing) (even : darts g % 2 ≡ 0) (R : Rings g) where
         here : (f : ℕ) → ((isFace g f ≡ true) × (face g f ≡ f)) ⊎ ((isFace g f ≡ false) × (face g f ≢ f)) → cond (isFace g f) (room1 g f) 0 ≡ room1 g f
         here f (inl e) = rw (e .0)
         here f (inr e) = rw (e .0) (sym (room1-none out f (e .1)))
-
-    pub table-total : (room : ℕ → ℕ)
-        → ((f : ℕ) → f < darts g → face g f ≡ f → room f + 1 ≡ room1 g f)
-        → ((f : ℕ) → f < darts g → face g f ≢ f → room f ≡ 0)
-        → sum (darts g) room ≡ sum (g .events) (λ v. bit (pole g v))
-    unfolding faces
-    table-total room at-face elsewhere =
-        let n : ℕ = darts g in
-        let e : sum n (λ f. room f + δ (face g f) f) ≡ sum n (room1 g) =
-        sum-cong n (λ f. room f + δ (face g f) f) (room1 g) (λ f l. elim (ℕ-discrete (face g f) f) [
-          | yes q ↦ omega (arith, δ-eq (face g f) f q, at-face f l q)
-          | no d ↦ omega (arith, δ-other (face g f) f d, elsewhere f l d, room1-none out f d)
-        ]) in
-        omega (arith, sum-add n room (λ f. δ (face g f) f), room1-total)

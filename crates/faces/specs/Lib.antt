@@ -1,2 +1,1 @@
 pub mod Walked
-pub mod Joining

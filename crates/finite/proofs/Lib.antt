@@ -11,3 +11,4 @@ pub mod Yes
 pub mod Tally
 pub mod Extra
 pub mod Lists
+pub mod Along

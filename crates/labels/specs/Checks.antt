@@ -1,6 +1,6 @@
 -- What the checks of a report's labels ask. Assumes nothing.
 --   Suits g l c            the label of corner c suits its kind
---   Counted g l e f c      e and f hold the large corners below c of each event and of each face
+--   Counted g here l e f c   e and f hold the large corners below c of each event and of each key of a face
 --   Same a b               the tables a and b are alike
 use mathlib.Core.Path.{_≡_}
 use mathlib.Core.Logic.{_⊎_}
@@ -8,7 +8,7 @@ use mathlib.Core.List.{List}
 use Prim.Native.Nat.{ℕ, _<_}
 use lib.ListN.{length}
 use Rattle.finite.specs.Sums.{δ, class}
-use Rattle.drawing.specs.Drawing.{Drawing, darts, event, cornerFace, plain, switch}
+use Rattle.drawing.specs.Drawing.{Drawing, event, faces, plain, switch}
 use Rattle.drawing.specs.Conditions.{label}
 use Rattle.words.specs.Tables.{nth}
 
@@ -21,11 +21,11 @@ pub record Suits (g : Drawing) (l : List ℕ) (c : ℕ) : Type 0 where
 abbrev pub large : List ℕ → ℕ → ℕ
 large l c = δ (label l c) 2
 
-pub record Counted (g : Drawing) (l e f : List ℕ) (c : ℕ) : Type 0 where
+pub record Counted (g : Drawing) (here l e f : List ℕ) (c : ℕ) : Type 0 where
   pub size-e : length e ≡ g .events
-  pub size-f : length f ≡ darts g
+  pub size-f : length f ≡ faces g
   pub by-event : (v : ℕ) → v < length e → nth e v ≡ class c (event g) (large l) v
-  pub by-face : (x : ℕ) → x < length f → nth f x ≡ class c (cornerFace g) (large l) x
+  pub by-face : (x : ℕ) → x < length f → nth f x ≡ class c (nth here) (large l) x
 
 abbrev pub Same : List ℕ → List ℕ → Type 0
 Same a b = (i : ℕ) → i < length a → nth a i ≡ nth b i

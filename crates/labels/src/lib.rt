@@ -4,11 +4,12 @@ ghost use Prim.Native.Nat.{ℕ, _+_, _<_};
 ghost use lib.ListN.{length, set};
 ghost use Rattle.finite.specs.Sums.{δ};
 ghost use Rattle.finite.specs.Says.{Says};
+ghost use Rattle.drawing.specs.Drawing.{faces};
 ghost use Rattle.drawing.specs.Conditions.{EventsKnown, OuterKnown, Rings, Labelling};
 ghost use Rattle.rules.specs.Chart.{drawing};
 ghost use Rattle.words.specs.Tables.{nth};
 ghost use Rattle.chart.specs.Shape.{Shape};
-ghost use Rattle.chart.specs.Held.{Faced, Poled, Roomed};
+ghost use Rattle.chart.specs.Held.{Keyed, Poled, Roomed};
 ghost use Rattle.labels.specs.Checks.{Suits, Counted, Same};
 
 // Whether the label of corner c suits its kind.
@@ -68,10 +69,10 @@ fn count_corner(
     load: &mut [u16],
     c: usize,
 )
-    requires { ⌜ Shape (now chart) n × (EventsKnown (drawing (now chart)) × (Rings (drawing (now chart)) × Faced (drawing (now chart)) (now here))) ⌝ }
+    requires { ⌜ Shape (now chart) n × (EventsKnown (drawing (now chart)) × (Rings (drawing (now chart)) × Keyed (drawing (now chart)) (now here))) ⌝ }
     requires { ⌜ (length (now body) ≡ n) × (c < n) ⌝ }
-    requires { ⌜ Counted (drawing (now chart)) (now body) (now tally) (now load) c ⌝ }
-    ensures { λ _. ⌜ Counted (drawing (now (chart .entry))) (now (body .entry)) (now (tally .exit)) (now (load .exit)) (c + 1) ⌝ }
+    requires { ⌜ Counted (drawing (now chart)) (now here) (now body) (now tally) (now load) c ⌝ }
+    ensures { λ _. ⌜ Counted (drawing (now (chart .entry))) (now (here .entry)) (now (body .entry)) (now (tally .exit)) (now (load .exit)) (c + 1) ⌝ }
 {
     let b = body[c];
     let e = chart::event_of(chart, n, c);
@@ -89,9 +90,9 @@ fn count_larges(
     tally: &mut [u16],
     load: &mut [u16],
 )
-    requires { ⌜ Shape (now chart) n × (EventsKnown (drawing (now chart)) × (Rings (drawing (now chart)) × Faced (drawing (now chart)) (now here))) ⌝ }
-    requires { ⌜ (length (now body) ≡ n) × ((length (now tally) ≡ drawing (now chart) .events) × (length (now load) ≡ n)) ⌝ }
-    ensures { λ _. ⌜ Counted (drawing (now (chart .entry))) (now (body .entry)) (now (tally .exit)) (now (load .exit)) n ⌝ }
+    requires { ⌜ Shape (now chart) n × (EventsKnown (drawing (now chart)) × (Rings (drawing (now chart)) × Keyed (drawing (now chart)) (now here))) ⌝ }
+    requires { ⌜ (length (now body) ≡ n) × ((length (now tally) ≡ drawing (now chart) .events) × (length (now load) ≡ faces (drawing (now chart)))) ⌝ }
+    ensures { λ _. ⌜ Counted (drawing (now (chart .entry))) (now (here .entry)) (now (body .entry)) (now (tally .exit)) (now (load .exit)) n ⌝ }
 {
     words::fill(tally, 0);
     words::fill(load, 0);
@@ -128,9 +129,9 @@ pub fn labels_hold(
     tally: &mut [u16],
     load: &mut [u16],
 ) -> bool
-    requires { ⌜ Shape (now chart) n × (EventsKnown (drawing (now chart)) × (Rings (drawing (now chart)) × Faced (drawing (now chart)) (now here))) ⌝ }
-    requires { ⌜ OuterKnown (drawing (now chart)) × (Poled (drawing (now chart)) (now poles) × Roomed (drawing (now chart)) (now spare)) ⌝ }
-    requires { ⌜ (length (now body) ≡ n) × ((length (now tally) ≡ drawing (now chart) .events) × (length (now load) ≡ n)) ⌝ }
+    requires { ⌜ Shape (now chart) n × (EventsKnown (drawing (now chart)) × (Rings (drawing (now chart)) × Keyed (drawing (now chart)) (now here))) ⌝ }
+    requires { ⌜ OuterKnown (drawing (now chart)) × (Poled (drawing (now chart)) (now poles) × Roomed (drawing (now chart)) (now here) (now spare)) ⌝ }
+    requires { ⌜ (length (now body) ≡ n) × ((length (now tally) ≡ drawing (now chart) .events) × (length (now load) ≡ faces (drawing (now chart)))) ⌝ }
     ensures { λ r. ⌜ Says r (Labelling (drawing (now (chart .entry))) (now (body .entry))) ⌝ }
 {
     if !all_suit(chart, n, body) {

@@ -4,21 +4,21 @@ use mathlib.Core.Bool.{Bool, true, false}
 use mathlib.Core.List.{List}
 use Prim.Native.Nat.{ℕ, _≤_, _<_}
 use native.Mathlib.Omega.{arith}
-use lib.Dec.{T}
-use lib.ListN.{length, getD, length-replicate, getD-replicate}
+use lib.ListN.{length, getD, replicate, length-replicate, getD-replicate}
 use Rattle.finite.specs.Sums.{bit}
-use Rattle.finite.proofs.Filled.{blank}
 use Rattle.finite.proofs.Sum.{sum-term, sum-mono, sum-const}
-use Rattle.drawing.specs.Drawing.{darts, pole}
+use Rattle.drawing.specs.Drawing.{faces, pole}
 use Rattle.finite.proofs.Extra.{bit-yes}
 use Rattle.rules.specs.Chart.{drawing}
 use Rattle.words.specs.Tables.{nth}
 use Rattle.chart.specs.Shape.{Shape}
-use Rattle.placing.specs.Search.{member, Listing}
+use Rattle.placing.specs.Board.{hold}
+use Rattle.placing.specs.Search.{Sofar}
+use Rattle.placing.proofs.Settles.{sofar-own, all-as, crowd-as}
 use Rattle.placing.proofs.Labelled.{is-labelling}
 use Rattle.placing.proofs.Writes.{is-cut}
 use Rattle.places.specs.Found.{Ready, Found}
-use Rattle.places.specs.Steps.{Reads, Tables, Begin, Settled, Labels}
+use Rattle.places.specs.Steps.{Reads, Begin, Left, Rest, Labels}
 
 module _ {s : List ℕ} {n : ℕ} {here poles first spare : List ℕ} (Z : Shape s n) (Y : Ready (drawing s) here poles first spare) where
   bits : (v : ℕ) → v < drawing s .events → nth poles v ≤ 1
@@ -29,48 +29,58 @@ module _ {s : List ℕ} {n : ℕ} {here poles first spare : List ℕ} (Z : Shape
       one false = omega arith
 
   pub reads : Reads s n here
-  reads = record { shape = Z; board = record { even = omega (arith, Z .even, Z .darts); rings = Y .rings; known = Y .known; faced = Y .faced } }
+  reads = record { shape = Z; board = record { even = omega (arith, Z .even, Z .darts); rings = Y .rings; known = Y .known; keyed = Y .keyed } }
 
   -- no room is larger than all of them together, which is the number of sources and sinks
-  few : (f : ℕ) → f < n → nth spare f ≤ 6144
+  few : (f : ℕ) → f < faces (drawing s) → nth spare f ≤ 6144
   few f l =
       omega (
         arith,
-        sum-term (darts (drawing s)) (nth spare) f (omega (arith, Z .darts)),
+        sum-term (faces (drawing s)) (nth spare) f l,
         Y .total,
         sum-mono (drawing s .events) (nth poles) (λ v. 1) bits,
         sum-const (drawing s .events) 1,
         Z .events .1,
       )
 
-  pub begin : {L rank via : List ℕ} → Tables (drawing s) L rank via → Begin s n here poles first L spare rank via
-  begin {L} {rank} T = record {
+  pub begin : {L : List ℕ} → L ≡ replicate (drawing s .events) 65535 → Begin s n here poles first L spare
+  begin {L} e = record {
     reads = reads;
     poled = Y .poled .size;
     firsts = Y .firsts;
-    events = ap length (T .large) ∙ length-replicate (drawing s .events) 65535;
-    nobody = λ v l. omega (arith, ap (λ (l : List ℕ). getD l v 0) (T .large), getD-replicate {A = ℕ} (drawing s .events) v 65535 0 l, Z .few, Z .darts);
-    faces = omega (arith, Y .roomed .size, Z .darts);
+    events = ap length e ∙ length-replicate (drawing s .events) 65535;
+    nobody = λ v l. omega (arith, ap (λ (l : List ℕ). getD l v 0) e, getD-replicate {A = ℕ} (drawing s .events) v 65535 0 l, Z .few, Z .darts);
+    keys = Y .roomed .size;
     few = few;
-    fresh = record { ranks = ap length (T .ranks) ∙ length-replicate (darts (drawing s)) 0; vias = T .vias; blank = blank rank (darts (drawing s)) (T .ranks) };
   }
 
-  module _ {L rank : List ℕ} {r : ℕ} (S : Settled (drawing s) here poles spare L rank r) (labels₀ : List ℕ) where
-    pub found-labels : {labels : List ℕ} (list : List ℕ) → 65535 ≤ r → Labels (drawing s) L labels → Found (drawing s) labels₀ labels list 65535
-    found-labels {labels} list l W = record {
-      yes = λ q. is-labelling (reads .board) (S .all l) (Y .poled .each) (Y .outer) (Y .roomed .each) (Y .total) labels (W .size) (W .each);
-      no = λ q. absurd (omega arith);
+  module _ {L sp : List ℕ} {w : ℕ} (S : Sofar (drawing s) here (nth poles) (nth spare) w L sp) where
+    pub left : Left s n here poles first L sp w
+    left = record {
+      reads = reads;
+      poled = Y .poled .size;
+      firsts = Y .firsts;
+      keys = Y .few;
+      few = λ f l. omega (arith, S .total f l, few f l);
+      sofar = sofar-own S;
     }
 
-    pub found-cut : {list : List ℕ} {k : ℕ} → r < 65535 → length list ≡ drawing s .events → Listing (length L) (member here L rank r) list k → Found (drawing s) labels₀ labels₀ list k
-    found-cut {list} {k} l e W =
-        let W′ : Listing (drawing s .events) (member here L rank r) list k = rw (S .events) at W in
-        let most : k ≤ drawing s .events = omega (arith, W′ .count, sum-mono (drawing s .events) (member here L rank r) (λ v. 1) (λ v h. omega arith), sum-const (drawing s .events) 1) in
-        record {
-          yes = λ q. absurd (omega (arith, Z .events .1));
-          no = λ q. (
-            omega arith,
-            is-cut (S .crowd l) W′ (omega arith) (Y .roomed .each) (λ v h m. bit-yes (pole (drawing s) v) .1 (omega (arith, S .of-poles l v h m, Y .poled .each v h))),
-            refl,
-          );
-        }
+    module _ {L′ list : List ℕ} {r : ℕ} (R : Rest (drawing s) here poles (hold (drawing s) here L sp) L′ list r) (labels₀ : List ℕ) where
+      pub found-labels : {labels : List ℕ} → 65535 ≤ r → Labels (drawing s) L′ labels → Found (drawing s) labels₀ labels list 65535
+      found-labels {labels} l W = record {
+        yes = λ q. is-labelling (reads .board) (all-as (R .all l) (S .total)) (Y .poled .each) (Y .outer) (Y .roomed .each) (Y .total) labels (W .size) (W .each);
+        no = λ q. absurd (omega arith);
+      }
+
+      pub found-cut : r < 65535 → length list ≡ drawing s .events → Found (drawing s) labels₀ labels₀ list r
+      found-cut l e =
+          let C = R .crowd l in
+          let most : r ≤ drawing s .events = omega (arith, C .listed .count, sum-mono (drawing s .events) (C .set) (λ v. 1) (C .bits), sum-const (drawing s .events) 1) in
+          record {
+            yes = λ q. absurd (omega arith);
+            no = λ q. (
+              omega arith,
+              is-cut (reads .board) (crowd-as (C .crowd) (S .total)) (C .listed) (omega arith) (Y .roomed .each) (λ v h m. bit-yes (pole (drawing s) v) .1 (omega (arith, C .of-poles v h m, Y .poled .each v h))),
+              refl,
+            );
+          }

@@ -6,9 +6,8 @@ use native.Mathlib.Omega.{arith}
 use Rattle.drawing.specs.Drawing.{Drawing, darts, event}
 use Rattle.rules.specs.Chart.{drawing}
 use Rattle.words.specs.Tables.{nth}
-use Rattle.placing.specs.Search.{Placed}
 use Rattle.placing.proofs.Moves.{Seat}
-use Rattle.places.specs.Steps.{Fresh, Near, Sits, Seeks, Sought}
+use Rattle.places.specs.Steps.{Near, Sits, Turn}
 
 -- going round: no corner, or one of the event whose face, f, has room a
 pub near-none : {g : Drawing} {here sp : List ℕ} {first : ℕ} → Near g here sp first 65535
@@ -18,15 +17,15 @@ pub near-some : {g : Drawing} {here sp : List ℕ} {first c f a : ℕ} → c < d
 near-some {sp = sp} i o e r h = record { inside = λ l. i; own = λ l. o; room = λ l. omega (arith, r, ap (nth sp) e) }
 
 -- such a corner is a place for it
-pub near-sits : {s : List ℕ} {n : ℕ} {here L sp rank via : List ℕ} {u first c : ℕ} → Seeks s n here L sp rank via u first → Near (drawing s) here sp first c → c < 65535 → Sits s n here L sp u c
-near-sits S N l = record {
-  reads = S .asks .reads;
-  valid = S .asks .valid;
-  few = S .few;
-  inside = omega (arith, N .inside l, S .asks .reads .shape .darts);
-  own = N .own l ∙ S .asks .own;
+pub near-sits : {s : List ℕ} {n : ℕ} {here poles firsts L sp : List ℕ} {e first c : ℕ} → Turn s n here poles firsts L sp e → first ≡ nth firsts e → Near (drawing s) here sp first c → c < 65535 → Sits s n here L sp e c
+near-sits {s} {e = e} T q N l = record {
+  reads = T .reads;
+  valid = T .valid;
+  few = T .few;
+  inside = omega (arith, N .inside l, T .reads .shape .darts);
+  own = N .own l ∙ ap (event (drawing s)) q ∙ T .firsts .each e (T .inside);
   room = N .room l;
-  free = S .asks .free;
+  free = T .free;
 }
 
 pub sits-seat : {s : List ℕ} {n : ℕ} {here L sp : List ℕ} {e c f : ℕ} → Sits s n here L sp e c → f ≡ nth here c → Seat (drawing s) here L sp e c f
@@ -38,7 +37,3 @@ sits-seat {sp = sp} S q = record {
   face = q;
   room = omega (arith, S .room, ap (nth sp) q);
 }
-
--- the event is placed, near or by a search
-pub sought-placed : {g : Drawing} {here L sp : List ℕ} {u : ℕ} {L′ sp′ rank′ via′ : List ℕ} → Placed g here L sp u L′ sp′ → Fresh (darts g) rank′ via′ → Sought g here L sp u L′ sp′ rank′ via′ 1
-sought-placed P F = record { few = omega arith; ranks = F .ranks; placed = λ q. (P, F); stuck = λ q. absurd (omega arith) }

@@ -6,32 +6,35 @@
 --   Sits               an event that has no place, and a corner of it whose face has room
 --   Shifts             the moves along the way that a search found
 --   Seeks, Sought      a place for the event u of corner first: it is placed, or it has none
---   Turn, Seated       an event's turn: it is no pole, it is placed, or it has no place
---   Begin, Settled     all events in turn: all poles are placed, or a crowd of poles with the first that has no place
---   Tables             the tables before the first search
---   labelOf, Labels    the label of each corner
+--   Turn, Seated       an event's turn to sit: it is no pole, it is placed, or it is left over
+--   Upto               how far all poles are placed, with one event more
+--   Begin              the tables before the first pass: nobody is placed
+--   Late, Housed       an event's turn when all sit who can: it is no pole or has its place, it is placed, or it has no place
+--   Left, Settled      all events from w on: all poles are placed, or a crowd of poles with the first that has no place
+--   Crowded, Rest      the same, with the crowd as a list
+--   labelOf, Labels    the label of each corner; Plains before anyone's place is marked, Raised where those of the events below v are
 use mathlib.Core.Path.{_≡_}
-use mathlib.Core.Logic.{_≢_}
+use mathlib.Core.Logic.{_≢_, _⊎_}
 use mathlib.Core.List.{List}
 use Prim.Native.Nat.{ℕ, _+_, _*_, _≤_, _<_}
-use lib.ListN.{length, replicate}
+use lib.ListN.{length}
 use Rattle.finite.specs.Sums.{δ}
-use Rattle.drawing.specs.Drawing.{Drawing, darts, event, plain}
+use Rattle.drawing.specs.Drawing.{Drawing, darts, event, faces, plain}
 use Rattle.rules.specs.Chart.{drawing}
 use Rattle.words.specs.Tables.{nth}
 use Rattle.chart.specs.Shape.{Shape}
 use Rattle.chart.specs.Held.{Firsts}
 use Rattle.placing.specs.Board.{Board, hold, Valid, Nobody, All, Crowd}
-use Rattle.placing.specs.Search.{Blank, Held, Way, member, Placed}
+use Rattle.placing.specs.Search.{Blank, Held, Way, member, Placed, Sofar, Listing}
 
 pub record Reads (s : List ℕ) (n : ℕ) (here : List ℕ) : Type 0 where
   pub shape : Shape s n
   pub board : Board (drawing s) here
 
--- rank has an entry for each face
+-- rank has an entry for each key
 pub record Ranks (here rank : List ℕ) : Type 0 where
-  pub size : length rank ≡ length here
-  pub into : (c : ℕ) → c < length here → nth here c < length here
+  pub size : length rank ≤ length here
+  pub into : (c : ℕ) → c < length here → nth here c < length rank
 
 -- the two tables of a search that has not begun
 pub record Fresh (n : ℕ) (rank via : List ℕ) : Type 0 where
@@ -48,7 +51,7 @@ pub record Near (g : Drawing) (here sp : List ℕ) (first r : ℕ) : Type 0 wher
 pub record Asks (s : List ℕ) (n : ℕ) (here L sp rank via : List ℕ) (u first : ℕ) : Type 0 where
   pub reads : Reads s n here
   pub valid : Valid (drawing s) L sp
-  pub fresh : Fresh (darts (drawing s)) rank via
+  pub fresh : Fresh (faces (drawing s)) rank via
   pub inside : first < n
   pub own : event (drawing s) first ≡ u
   pub free : n ≤ nth L u
@@ -56,16 +59,17 @@ pub record Asks (s : List ℕ) (n : ℕ) (here L sp rank via : List ℕ) (u firs
 -- at is the place of the list, end the list's end
 pub record Answer (g : Drawing) (here L sp : List ℕ) (u : ℕ) (rank via : List ℕ) (at end : ℕ) : Type 0 where
   pub held : Held here rank via end
+  pub ranks : length rank ≡ faces g
   pub way : at < 65535 → Way g here L sp u rank via at
-  pub stuck : 65535 ≤ at → Crowd g (hold g here L sp) (member here L rank u)
+  pub stuck : 65535 ≤ at → Crowd g here (hold g here L sp) (member here L rank u)
 
-abbrev pub Few : List ℕ → ℕ → List ℕ → List ℕ → List ℕ → Type 0
-Few s n here L sp = (f : ℕ) → f < n → hold (drawing s) here L sp f ≤ 6144
+abbrev pub Few : List ℕ → List ℕ → List ℕ → List ℕ → Type 0
+Few s here L sp = (f : ℕ) → f < faces (drawing s) → hold (drawing s) here L sp f ≤ 6144
 
 pub record Sits (s : List ℕ) (n : ℕ) (here L sp : List ℕ) (e c : ℕ) : Type 0 where
   pub reads : Reads s n here
   pub valid : Valid (drawing s) L sp
-  pub few : Few s n here L sp
+  pub few : Few s here L sp
   pub inside : c < n
   pub own : event (drawing s) c ≡ e
   pub room : 1 ≤ nth sp (nth here c)
@@ -75,64 +79,112 @@ pub record Sits (s : List ℕ) (n : ℕ) (here L sp : List ℕ) (e c : ℕ) : Ty
 pub record Shifts (s : List ℕ) (n : ℕ) (here rank via L sp : List ℕ) (u i : ℕ) : Type 0 where
   pub reads : Reads s n here
   pub valid : Valid (drawing s) L sp
-  pub few : Few s n here L sp
+  pub few : Few s here L sp
   pub way : Way (drawing s) here L sp u rank via i
   pub free : n ≤ nth L u
 
 pub record Seeks (s : List ℕ) (n : ℕ) (here L sp rank via : List ℕ) (u first : ℕ) : Type 0 where
   pub asks : Asks s n here L sp rank via u first
-  pub few : Few s n here L sp
+  pub few : Few s here L sp
 
 pub record Sought (g : Drawing) (here L sp : List ℕ) (u : ℕ) (L′ sp′ rank′ via′ : List ℕ) (r : ℕ) : Type 0 where
   pub few : r ≤ 1
-  pub ranks : length rank′ ≡ darts g
-  pub placed : r ≡ 1 → Placed g here L sp u L′ sp′ × Fresh (darts g) rank′ via′
-  pub stuck : r ≡ 0 → (L′ ≡ L) × (sp′ ≡ sp) × Crowd g (hold g here L sp) (member here L rank′ u)
+  pub ranks : length rank′ ≡ faces g
+  pub placed : r ≡ 1 → Placed g here L sp u L′ sp′ × Fresh (faces g) rank′ via′
+  pub stuck : r ≡ 0 → (L′ ≡ L) × (sp′ ≡ sp) × Crowd g here (hold g here L sp) (member here L rank′ u)
 
-pub record Turn (s : List ℕ) (n : ℕ) (here poles first L sp rank via : List ℕ) (e : ℕ) : Type 0 where
+-- ---- the first pass
+
+pub record Turn (s : List ℕ) (n : ℕ) (here poles first L sp : List ℕ) (e : ℕ) : Type 0 where
   pub reads : Reads s n here
   pub valid : Valid (drawing s) L sp
-  pub few : Few s n here L sp
+  pub few : Few s here L sp
   pub poled : length poles ≡ drawing s .events
   pub firsts : Firsts (drawing s) first
-  pub fresh : Fresh (darts (drawing s)) rank via
   pub inside : e < drawing s .events
   pub free : n ≤ nth L e
 
-pub record Seated (g : Drawing) (here poles L sp : List ℕ) (e : ℕ) (L′ sp′ rank′ via′ : List ℕ) (r : ℕ) : Type 0 where
+pub record Seated (g : Drawing) (here poles L sp : List ℕ) (e : ℕ) (L′ sp′ : List ℕ) (r : ℕ) : Type 0 where
   pub few : r ≤ 2
-  pub ranks : length rank′ ≡ darts g
-  pub skip : r ≡ 2 → (nth poles e ≢ 1) × (L′ ≡ L) × (sp′ ≡ sp) × Fresh (darts g) rank′ via′
-  pub placed : r ≡ 1 → (nth poles e ≡ 1) × Placed g here L sp e L′ sp′ × Fresh (darts g) rank′ via′
-  pub stuck : r ≡ 0 → (nth poles e ≡ 1) × (L′ ≡ L) × (sp′ ≡ sp) × Crowd g (hold g here L sp) (member here L rank′ e)
+  pub skip : r ≡ 2 → (nth poles e ≢ 1) × (L′ ≡ L) × (sp′ ≡ sp)
+  pub placed : r ≡ 1 → (nth poles e ≡ 1) × Placed g here L sp e L′ sp′
+  pub left : r ≡ 0 → (L′ ≡ L) × (sp′ ≡ sp)
 
-pub record Begin (s : List ℕ) (n : ℕ) (here poles first L sp rank via : List ℕ) : Type 0 where
+abbrev pub Upto : ℕ → ℕ → ℕ → ℕ → Type 0
+Upto w e r x = (x ≡ w) ⊎ ((x ≡ e + 1) × (w ≡ e) × (r ≢ 0))
+
+pub record Begin (s : List ℕ) (n : ℕ) (here poles first L sp : List ℕ) : Type 0 where
   pub reads : Reads s n here
   pub poled : length poles ≡ drawing s .events
   pub firsts : Firsts (drawing s) first
   pub events : length L ≡ drawing s .events
   pub nobody : Nobody (drawing s) L
-  pub faces : length sp ≡ n
-  pub few : (f : ℕ) → f < n → nth sp f ≤ 6144
-  pub fresh : Fresh (darts (drawing s)) rank via
+  pub keys : length sp ≡ faces (drawing s)
+  pub few : (f : ℕ) → f < faces (drawing s) → nth sp f ≤ 6144
 
--- nobody is placed and nothing is listed
-pub record Tables (g : Drawing) (L rank via : List ℕ) : Type 0 where
-  pub large : L ≡ replicate (g .events) 65535
-  pub ranks : rank ≡ replicate (darts g) 0
-  pub vias : length via ≡ darts g
+-- ---- the second
 
-pub record Settled (g : Drawing) (here poles room L rank : List ℕ) (r : ℕ) : Type 0 where
+pub record Late (s : List ℕ) (n : ℕ) (here poles first L sp rank via : List ℕ) (e : ℕ) : Type 0 where
+  pub reads : Reads s n here
+  pub valid : Valid (drawing s) L sp
+  pub few : Few s here L sp
+  pub poled : length poles ≡ drawing s .events
+  pub firsts : Firsts (drawing s) first
+  pub fresh : Fresh (faces (drawing s)) rank via
+  pub inside : e < drawing s .events
+
+pub record Housed (g : Drawing) (here poles L sp : List ℕ) (e : ℕ) (L′ sp′ rank′ via′ : List ℕ) (r : ℕ) : Type 0 where
+  pub few : r ≤ 2
+  pub ranks : length rank′ ≡ faces g
+  pub skip : r ≡ 2 → ((nth poles e ≢ 1) ⊎ (nth L e < darts g)) × (L′ ≡ L) × (sp′ ≡ sp) × Fresh (faces g) rank′ via′
+  pub placed : r ≡ 1 → (nth poles e ≡ 1) × Placed g here L sp e L′ sp′ × Fresh (faces g) rank′ via′
+  pub stuck : r ≡ 0 → (nth poles e ≡ 1) × (L′ ≡ L) × (sp′ ≡ sp) × Crowd g here (hold g here L sp) (member here L rank′ e)
+
+pub record Left (s : List ℕ) (n : ℕ) (here poles first L sp : List ℕ) (w : ℕ) : Type 0 where
+  pub reads : Reads s n here
+  pub poled : length poles ≡ drawing s .events
+  pub firsts : Firsts (drawing s) first
+  pub keys : faces (drawing s) ≤ 3072
+  pub few : Few s here L sp
+  pub sofar : Sofar (drawing s) here (nth poles) (hold (drawing s) here L sp) w L sp
+
+pub record Settled (g : Drawing) (here poles : List ℕ) (room : ℕ → ℕ) (L rank : List ℕ) (r : ℕ) : Type 0 where
   pub events : length L ≡ g .events
-  pub ranks : length rank ≡ darts g
-  pub all : 65535 ≤ r → All g here (nth poles) (nth room) L
+  pub ranks : length rank ≡ faces g
+  pub all : 65535 ≤ r → All g here (nth poles) room L
   pub inside : r < 65535 → r < g .events
-  pub crowd : r < 65535 → Crowd g (nth room) (member here L rank r)
+  pub crowd : r < 65535 → Crowd g here room (member here L rank r)
   pub of-poles : r < 65535 → (v : ℕ) → v < g .events → 1 ≤ member here L rank r v → nth poles v ≡ 1
+
+-- the first k entries of the list are a crowd of poles
+pub record Crowded (g : Drawing) (here poles : List ℕ) (room : ℕ → ℕ) (list : List ℕ) (k : ℕ) : Type 0 where
+  pub set : ℕ → ℕ
+  pub bits : (v : ℕ) → v < g .events → set v ≤ 1
+  pub crowd : Crowd g here room set
+  pub of-poles : (v : ℕ) → v < g .events → 1 ≤ set v → nth poles v ≡ 1
+  pub listed : Listing (g .events) set list k
+
+pub record Rest (g : Drawing) (here poles : List ℕ) (room : ℕ → ℕ) (L list : List ℕ) (r : ℕ) : Type 0 where
+  pub events : length L ≡ g .events
+  pub all : 65535 ≤ r → All g here (nth poles) room L
+  pub crowd : r < 65535 → Crowded g here poles room list r
+
+-- ---- the labels
 
 -- 2 more where the corner is its event's place, 1 more where it is plain
 abbrev pub labelOf : Drawing → List ℕ → ℕ → ℕ
 labelOf g L c = 2 * δ (nth L (event g c)) c + plain g c
+
+-- before anyone is placed
+pub record Plains (g : Drawing) (out : List ℕ) : Type 0 where
+  pub size : length out ≡ darts g
+  pub each : (c : ℕ) → c < darts g → nth out c ≡ plain g c
+
+-- the events below v have their places marked
+pub record Raised (g : Drawing) (L out : List ℕ) (v : ℕ) : Type 0 where
+  pub size : length out ≡ darts g
+  pub done : (c : ℕ) → c < darts g → event g c < v → nth out c ≡ labelOf g L c
+  pub left : (c : ℕ) → c < darts g → v ≤ event g c → nth out c ≡ plain g c
 
 pub record Labels (g : Drawing) (L out : List ℕ) : Type 0 where
   pub size : length out ≡ darts g

@@ -1,26 +1,34 @@
 // Places for sources and sinks: a labelling, or a cut where there is none.
 //
 // A placement has for each source and sink one of its own corners, its large one, and no face holds more of them than its
-// room. An event that touches a face with room is placed there at once. Else a search lists faces: those that it touches,
-// then for each listed face without room those that the events placed there touch. A face with room gives the way back,
-// along which events move one by one. Where no listed face has room, the event and all who are placed in listed faces are
-// a cut.
+// room. First everyone sits who touches a face with room. For each who is left over a search lists faces: those that it
+// touches, then for each listed face those that the events placed there touch, up to a face with room. That gives the way
+// back, along which events move one by one. Where no listed face has room, the event and all who are placed in listed faces
+// are a cut.
 ghost use mathlib.Core.Path.{_≡_};
-ghost use Prim.Native.Nat.{_≤_, _<_};
+ghost use Prim.Native.Nat.{_+_, _%_, _≤_, _<_};
 ghost use lib.ListN.{length};
-ghost use Rattle.drawing.specs.Drawing.{event, after};
+ghost use Rattle.drawing.specs.Drawing.{event, after, faces};
 ghost use Rattle.drawing.specs.Conditions.{EventsKnown};
 ghost use Rattle.rules.specs.Chart.{drawing};
 ghost use Rattle.chart.specs.Shape.{Shape};
-ghost use Rattle.placing.specs.Board.{turn as nextCorner};
-ghost use Rattle.placing.specs.Search.{Blank, Held, Listed, Touched, Visited, Scanned, member, Placed, Listing};
-ghost use Rattle.places.specs.Steps.{Reads, Ranks, Near, Asks, Answer, Sits, Shifts, Seeks, Sought, Turn, Seated, Begin, Settled, Tables, labelOf, Labels};
+ghost use Rattle.words.specs.Tables.{nth};
+ghost use Rattle.placing.specs.Board.{turn as nextCorner, hold, Own};
+ghost use Rattle.placing.specs.Search.{Blank, Held, Adds, Touches, Visits, Scans, member, Placed, Sofar, Listing};
+ghost use Rattle.places.specs.Steps.{Reads, Ranks, Fresh, Near, Asks, Answer, Sits, Shifts, Seeks, Sought, Turn, Seated, Upto, Begin, Late, Housed, Left, Settled, Rest, Plains, Raised, Labels};
 ghost use Rattle.places.specs.Found.{Ready, Found};
 
-// Lists the face of corner c, unless it is listed. Returns the new end of the list.
-fn list_face(here: &[u16], rank: &mut [u16], via: &mut [u16], t: usize, c: usize) -> usize
-    requires { ⌜ Held (now here) (now rank) (now via) t × (c < length (now here)) × (length (now here) ≤ 6144) ⌝ }
-    ensures { λ r. ⌜ Listed (now (here .entry)) c (now (rank .entry)) (now (via .entry)) t (now (rank .exit)) (now (via .exit)) r ⌝ }
+// Lists the face of corner c, unless it is listed. Returns the new end of the list, and 65536 more where the face has room.
+fn list_face(
+    here: &[u16],
+    spare: &[u16],
+    rank: &mut [u16],
+    via: &mut [u16],
+    t: usize,
+    c: usize,
+) -> usize
+    requires { ⌜ Held (now here) (now rank) (now via) t × (c < length (now here)) × (length (now here) ≤ 6144) × (length (now rank) ≤ length (now spare)) ⌝ }
+    ensures { λ r. ⌜ Adds (now (here .entry)) (now (spare .entry)) c (now (rank .entry)) (now (via .entry)) t (now (rank .exit)) (now (via .exit)) r ⌝ }
 {
     let f = words::get(here, c);
     if 1 <= words::get(rank, f) {
@@ -28,6 +36,9 @@ fn list_face(here: &[u16], rank: &mut [u16], via: &mut [u16], t: usize, c: usize
     }
     words::put(via, t, c);
     words::put(rank, f, t + 1);
+    if 1 <= words::get(spare, f) {
+        return 65537 + t;
+    }
     t + 1
 }
 
@@ -45,25 +56,30 @@ fn clear(here: &[u16], rank: &mut [u16], via: &[u16], t: usize)
     }
 }
 
-// Lists the faces that the event of corner first touches, going round it. Returns the new end.
+// Lists the faces that the event of corner first touches, going round it, up to one that has room. Returns the new end, and
+// 65536 more where there is one.
 fn touch(
     chart: &[u8],
     n: usize,
     here: &[u16],
+    spare: &[u16],
     rank: &mut [u16],
     via: &mut [u16],
     start: usize,
     first: usize,
 ) -> usize
-    requires { ⌜ Reads (now chart) n (now here) × Held (now here) (now rank) (now via) start × (first < n) ⌝ }
-    ensures { λ r. ⌜ Touched (drawing (now (chart .entry))) (now (here .entry)) (event (drawing (now (chart .entry))) first) (now (rank .entry)) (now (via .entry)) start (now (rank .exit)) (now (via .exit)) r ⌝ }
+    requires { ⌜ Reads (now chart) n (now here) × Held (now here) (now rank) (now via) start × (first < n) × (length (now rank) ≤ length (now spare)) ⌝ }
+    ensures { λ r. ⌜ Touches (drawing (now (chart .entry))) (now (here .entry)) (now (spare .entry)) (event (drawing (now (chart .entry))) first) (now (rank .entry)) (now (via .entry)) start (now (rank .exit)) (now (via .exit)) r ⌝ }
 {
     let mut t = start;
     let mut c = first;
     // the steps gone, fewer than there are darts: so the walk ends
     let mut k: usize = 0;
     loop {
-        t = list_face(here, rank, via, t, c);
+        t = list_face(here, spare, rank, via, t, c);
+        if 65536 <= t {
+            return t;
+        }
         c = chart::next_of(chart, n, c);
         if c == first {
             return t;
@@ -77,19 +93,20 @@ fn visit(
     chart: &[u8],
     n: usize,
     here: &[u16],
+    spare: &[u16],
     large: &[u16],
     rank: &mut [u16],
     via: &mut [u16],
     t: usize,
     c: usize,
 ) -> usize
-    requires { ⌜ Reads (now chart) n (now here) × Held (now here) (now rank) (now via) t × (c < n) × (length (now large) ≡ drawing (now chart) .events) ⌝ }
-    ensures { λ r. ⌜ Visited (drawing (now (chart .entry))) (now (here .entry)) (now (large .entry)) c (now (rank .entry)) (now (via .entry)) t (now (rank .exit)) (now (via .exit)) r ⌝ }
+    requires { ⌜ Reads (now chart) n (now here) × Held (now here) (now rank) (now via) t × (c < n) × (length (now rank) ≤ length (now spare)) × (length (now large) ≡ drawing (now chart) .events) ⌝ }
+    ensures { λ r. ⌜ Visits (drawing (now (chart .entry))) (now (here .entry)) (now (large .entry)) (now (spare .entry)) c (now (rank .entry)) (now (via .entry)) t (now (rank .exit)) (now (via .exit)) r ⌝ }
 {
     let e = chart::event_of(chart, n, c);
     let l = words::get(large, e);
     if l == c {
-        return touch(chart, n, here, rank, via, t, c);
+        return touch(chart, n, here, spare, rank, via, t, c);
     }
     t
 }
@@ -102,26 +119,30 @@ fn turn(chart: &[u8], n: usize, c: usize) -> usize
     words::twin(chart::next_of(chart, n, c))
 }
 
-// Lists the faces that the events placed in the face of corner first touch, going round the face.
+// Lists the faces that the events placed in the face of corner first touch, going round the face, up to one that has room.
 fn scan(
     chart: &[u8],
     n: usize,
     here: &[u16],
+    spare: &[u16],
     large: &[u16],
     rank: &mut [u16],
     via: &mut [u16],
     start: usize,
     first: usize,
 ) -> usize
-    requires { ⌜ Reads (now chart) n (now here) × Held (now here) (now rank) (now via) start × (first < n) × (length (now large) ≡ drawing (now chart) .events) ⌝ }
-    ensures { λ r. ⌜ Scanned (drawing (now (chart .entry))) (now (here .entry)) (now (large .entry)) first (now (rank .entry)) (now (via .entry)) start (now (rank .exit)) (now (via .exit)) r ⌝ }
+    requires { ⌜ Reads (now chart) n (now here) × Held (now here) (now rank) (now via) start × (first < n) × (length (now rank) ≤ length (now spare)) × (length (now large) ≡ drawing (now chart) .events) ⌝ }
+    ensures { λ r. ⌜ Scans (drawing (now (chart .entry))) (now (here .entry)) (now (large .entry)) (now (spare .entry)) first (now (rank .entry)) (now (via .entry)) start (now (rank .exit)) (now (via .exit)) r ⌝ }
 {
     let mut t = start;
     let mut c = first;
     // the steps gone, fewer than there are darts: so the walk ends
     let mut k: usize = 0;
     loop {
-        t = visit(chart, n, here, large, rank, via, t, c);
+        t = visit(chart, n, here, spare, large, rank, via, t, c);
+        if 65536 <= t {
+            return t;
+        }
         c = turn(chart, n, c);
         if c == first {
             return t;
@@ -136,7 +157,7 @@ struct Stop {
     end: usize,
 }
 
-// Looks for a place of the event u of corner first. The list goes on from each face that is full.
+// Looks for a place of the event u of corner first. The list goes on from each of its faces, all full, up to one that has room.
 fn search(
     chart: &[u8],
     n: usize,
@@ -151,15 +172,23 @@ fn search(
     requires { ⌜ Asks (now chart) n (now here) (now large) (now spare) (now rank) (now via) u first ⌝ }
     ensures { λ r. ⌜ Answer (drawing (now (chart .entry))) (now (here .entry)) (now (large .entry)) (now (spare .entry)) u (now (rank .exit)) (now (via .exit)) (r .at) (r .end) ⌝ }
 {
-    let mut t = touch(chart, n, here, rank, via, 0, first);
+    let mut t = touch(chart, n, here, spare, rank, via, 0, first);
+    if 65536 <= t {
+        return Stop {
+            at: t - 65537,
+            end: t - 65536,
+        };
+    }
     let mut h = 0;
     while h < t {
         let c = words::get(via, h);
-        let f = words::get(here, c);
-        if 1 <= words::get(spare, f) {
-            return Stop { at: h, end: t };
+        t = scan(chart, n, here, spare, large, rank, via, t, c);
+        if 65536 <= t {
+            return Stop {
+                at: t - 65537,
+                end: t - 65536,
+            };
         }
-        t = scan(chart, n, here, large, rank, via, t, c);
         h += 1;
     }
     Stop { at: 65535, end: t }
@@ -167,7 +196,7 @@ fn search(
 
 // A corner of the event of corner first whose face has room, the next from there on; or 65535. Most events find their place so, without a list.
 fn room_near(chart: &[u8], n: usize, here: &[u16], spare: &[u16], first: usize) -> usize
-    requires { ⌜ Reads (now chart) n (now here) × (length (now spare) ≡ n) × (first < n) ⌝ }
+    requires { ⌜ Reads (now chart) n (now here) × (length (now spare) ≡ faces (drawing (now chart))) × (first < n) ⌝ }
     ensures { λ r. ⌜ Near (drawing (now (chart .entry))) (now (here .entry)) (now (spare .entry)) first r ⌝ }
 {
     let mut c = first;
@@ -239,8 +268,7 @@ fn shift(
     }
 }
 
-// Looks for a place of the event u of corner first, and places it: at once in a face with room that it touches, or else by
-// a search. 1: it is placed; 0: it has no place.
+// Places the event u of corner first by a search. 1: it is placed; 0: it has no place.
 fn seek(
     chart: &[u8],
     n: usize,
@@ -255,11 +283,6 @@ fn seek(
     requires { ⌜ Seeks (now chart) n (now here) (now large) (now spare) (now rank) (now via) u first ⌝ }
     ensures { λ r. ⌜ Sought (drawing (now (chart .entry))) (now (here .entry)) (now (large .entry)) (now (spare .entry)) u (now (large .exit)) (now (spare .exit)) (now (rank .exit)) (now (via .exit)) r ⌝ }
 {
-    let c = room_near(chart, n, here, spare, first);
-    if c < 65535 {
-        sit(chart, n, here, large, spare, u, c);
-        return 1;
-    }
     let stop = search(chart, n, here, spare, large, rank, via, u, first);
     let i = stop.at;
     if 65535 <= i {
@@ -271,8 +294,71 @@ fn seek(
     1
 }
 
-// Finds a place for event e if it is a source or sink: 2 if it is none, 1 if it is placed, 0 if it has no place.
+// Seats event e if it is a source or sink and touches a face with room: 2 if it is none, 1 if it sits, 0 if it is left over.
 fn seat(
+    chart: &[u8],
+    n: usize,
+    here: &[u16],
+    poles: &[u16],
+    first: &[u16],
+    large: &mut [u16],
+    spare: &mut [u16],
+    e: usize,
+) -> usize
+    requires { ⌜ Turn (now chart) n (now here) (now poles) (now first) (now large) (now spare) e ⌝ }
+    ensures { λ r. ⌜ Seated (drawing (now (chart .entry))) (now (here .entry)) (now (poles .entry)) (now (large .entry)) (now (spare .entry)) e (now (large .exit)) (now (spare .exit)) r ⌝ }
+{
+    if words::get(poles, e) != 1 {
+        return 2;
+    }
+    let d = words::get(first, e);
+    let c = room_near(chart, n, here, spare, d);
+    if 65535 <= c {
+        return 0;
+    }
+    sit(chart, n, here, large, spare, e, c);
+    1
+}
+
+// How far all have a place: one further than w where that was e, which is not left over.
+fn upto(w: usize, e: usize, r: usize) -> usize
+    requires { ⌜ e < 65535 ⌝ }
+    ensures { λ x. ⌜ Upto w e r x ⌝ }
+{
+    if r == 0 {
+        return w;
+    }
+    if w != e {
+        return w;
+    }
+    e + 1
+}
+
+// Everyone sits who can, in event order. Returns the first who is left over, or the number of events.
+fn seat_all(
+    chart: &[u8],
+    n: usize,
+    here: &[u16],
+    poles: &[u16],
+    first: &[u16],
+    large: &mut [u16],
+    spare: &mut [u16],
+) -> usize
+    requires { ⌜ Begin (now chart) n (now here) (now poles) (now first) (now large) (now spare) ⌝ }
+    ensures { λ r. ⌜ Sofar (drawing (now (chart .entry))) (now (here .entry)) (nth (now (poles .entry))) (nth (now (spare .entry))) r (now (large .exit)) (now (spare .exit)) ⌝ }
+{
+    let mut w = 0;
+    let mut e = 0;
+    while e < poles.len() {
+        let r = seat(chart, n, here, poles, first, large, spare, e);
+        w = upto(w, e, r);
+        e += 1;
+    }
+    w
+}
+
+// Finds a place for event e if it is a source or sink that has none: 2 if it is not, 1 if it is placed, 0 if it has no place.
+fn house(
     chart: &[u8],
     n: usize,
     here: &[u16],
@@ -284,17 +370,20 @@ fn seat(
     via: &mut [u16],
     e: usize,
 ) -> usize
-    requires { ⌜ Turn (now chart) n (now here) (now poles) (now first) (now large) (now spare) (now rank) (now via) e ⌝ }
-    ensures { λ r. ⌜ Seated (drawing (now (chart .entry))) (now (here .entry)) (now (poles .entry)) (now (large .entry)) (now (spare .entry)) e (now (large .exit)) (now (spare .exit)) (now (rank .exit)) (now (via .exit)) r ⌝ }
+    requires { ⌜ Late (now chart) n (now here) (now poles) (now first) (now large) (now spare) (now rank) (now via) e ⌝ }
+    ensures { λ r. ⌜ Housed (drawing (now (chart .entry))) (now (here .entry)) (now (poles .entry)) (now (large .entry)) (now (spare .entry)) e (now (large .exit)) (now (spare .exit)) (now (rank .exit)) (now (via .exit)) r ⌝ }
 {
     if words::get(poles, e) != 1 {
+        return 2;
+    }
+    if words::get(large, e) < n {
         return 2;
     }
     let d = words::get(first, e);
     seek(chart, n, here, large, spare, rank, via, e, d)
 }
 
-// Places the sources and sinks in event order. Returns the first that has no place, or 65535.
+// Places the sources and sinks that are left, from w on in event order. Returns the first that has no place, or 65535.
 fn settle(
     chart: &[u8],
     n: usize,
@@ -305,13 +394,14 @@ fn settle(
     spare: &mut [u16],
     rank: &mut [u16],
     via: &mut [u16],
+    w: usize,
 ) -> usize
-    requires { ⌜ Begin (now chart) n (now here) (now poles) (now first) (now large) (now spare) (now rank) (now via) ⌝ }
-    ensures { λ r. ⌜ Settled (drawing (now (chart .entry))) (now (here .entry)) (now (poles .entry)) (now (spare .entry)) (now (large .exit)) (now (rank .exit)) r ⌝ }
+    requires { ⌜ Left (now chart) n (now here) (now poles) (now first) (now large) (now spare) w × Fresh (faces (drawing (now chart))) (now rank) (now via) ⌝ }
+    ensures { λ r. ⌜ Settled (drawing (now (chart .entry))) (now (here .entry)) (now (poles .entry)) (hold (drawing (now (chart .entry))) (now (here .entry)) (now (large .entry)) (now (spare .entry))) (now (large .exit)) (now (rank .exit)) r ⌝ }
 {
-    let mut e = 0;
+    let mut e = w;
     while e < poles.len() {
-        if seat(chart, n, here, poles, first, large, spare, rank, via, e) == 0 {
+        if house(chart, n, here, poles, first, large, spare, rank, via, e) == 0 {
             return e;
         }
         e += 1;
@@ -319,30 +409,47 @@ fn settle(
     65535
 }
 
-// The label of corner c: 2 more where it is its event's place, 1 more where it is plain.
-fn label(chart: &[u8], n: usize, large: &[u16], c: usize) -> u8
-    requires { ⌜ Shape (now chart) n × (c < n) × (event (drawing (now chart)) c < length (now large)) ⌝ }
-    ensures { λ r. ⌜ r ≡ labelOf (drawing (now (chart .entry))) (now (large .entry)) c ⌝ }
+// 1 if the corner between a dart c and its successor d is plain, 0 if it is a switch.
+fn plain_of(c: usize, d: usize) -> u8
+    ensures { λ r. ⌜ r ≡ (c % 2 + d % 2) % 2 ⌝ }
 {
-    let e = chart::event_of(chart, n, c);
-    let d = chart::next_of(chart, n, c);
-    let l = words::get(large, e);
-    let k = ((c % 2 + d % 2) % 2) as u8;
-    if l == c {
-        return 2 + k;
-    }
-    k
+    ((c % 2 + d % 2) % 2) as u8
 }
 
-// Writes the label of each corner.
-fn write_labels(chart: &[u8], n: usize, large: &[u16], labels: &mut [u8])
-    requires { ⌜ Shape (now chart) n × (length (now labels) ≡ n) × (length (now large) ≡ drawing (now chart) .events) × EventsKnown (drawing (now chart)) ⌝ }
-    ensures { λ _. ⌜ Labels (drawing (now (chart .entry))) (now (large .entry)) (now (labels .exit)) ⌝ }
+// Writes the label that each corner has before anyone is placed: 1 if it is plain, else 0.
+fn write_plain(chart: &[u8], n: usize, labels: &mut [u8])
+    requires { ⌜ Shape (now chart) n × (length (now labels) ≡ n) ⌝ }
+    ensures { λ _. ⌜ Plains (drawing (now (chart .entry))) (now (labels .exit)) ⌝ }
 {
     let mut c = 0;
     while c < n {
-        labels[c] = label(chart, n, large, c);
+        labels[c] = plain_of(c, chart::next_of(chart, n, c));
         c += 1;
+    }
+}
+
+// Adds 2 to the label of the place of event v, if it has one.
+fn raise(chart: &[u8], n: usize, large: &[u16], labels: &mut [u8], v: usize)
+    requires { ⌜ Shape (now chart) n × (v < length (now large)) × (length (now large) ≡ drawing (now chart) .events) × Own (drawing (now chart)) (now large) × Raised (drawing (now chart)) (now large) (now labels) v ⌝ }
+    ensures { λ _. ⌜ Raised (drawing (now (chart .entry))) (now (large .entry)) (now (labels .exit)) (v + 1) ⌝ }
+{
+    let c = words::get(large, v);
+    if n <= c {
+        return;
+    }
+    labels[c] = 2 + labels[c];
+}
+
+// Writes the label of each corner: 2 more where it is its event's place, 1 more where it is plain.
+fn write_labels(chart: &[u8], n: usize, large: &[u16], labels: &mut [u8])
+    requires { ⌜ Shape (now chart) n × (length (now labels) ≡ n) × (length (now large) ≡ drawing (now chart) .events) × EventsKnown (drawing (now chart)) × Own (drawing (now chart)) (now large) ⌝ }
+    ensures { λ _. ⌜ Labels (drawing (now (chart .entry))) (now (large .entry)) (now (labels .exit)) ⌝ }
+{
+    write_plain(chart, n, labels);
+    let mut v = 0;
+    while v < large.len() {
+        raise(chart, n, large, labels, v);
+        v += 1;
     }
 }
 
@@ -382,58 +489,136 @@ fn cut_list(here: &[u16], large: &[u16], rank: &[u16], u: usize, list: &mut [u16
     k
 }
 
-// The search on its tables: nobody is placed, and nothing is listed.
-fn place(
+// The searches on their tables: nothing is listed. Returns 65535 where all are placed; or writes a cut.
+fn searches(
     chart: &[u8],
     n: usize,
     here: &[u16],
     first: &[u16],
-    spare: &mut [u16],
     large: &mut [u16],
+    spare: &mut [u16],
     rank: &mut [u16],
     via: &mut [u16],
-    labels: &mut [u8],
     list: &mut [u16],
+    w: usize,
 ) -> usize
-    requires { ⌜ Shape (now chart) n × Ready (drawing (now chart)) (now here) (now list) (now first) (now spare) × Tables (drawing (now chart)) (now large) (now rank) (now via) × (length (now labels) ≡ n) ⌝ }
-    ensures { λ r. ⌜ Found (drawing (now (chart .entry))) (now (labels .entry)) (now (labels .exit)) (now (list .exit)) r ⌝ }
+    requires { ⌜ Left (now chart) n (now here) (now list) (now first) (now large) (now spare) w × Fresh (faces (drawing (now chart))) (now rank) (now via) ⌝ }
+    ensures { λ r. ⌜ Rest (drawing (now (chart .entry))) (now (here .entry)) (now (list .entry)) (hold (drawing (now (chart .entry))) (now (here .entry)) (now (large .entry)) (now (spare .entry))) (now (large .exit)) (now (list .exit)) r ⌝ }
 {
-    let r = settle(chart, n, here, list, first, large, spare, rank, via);
+    let r = settle(chart, n, here, list, first, large, spare, rank, via, w);
     if 65535 <= r {
-        write_labels(chart, n, large, labels);
         return 65535;
     }
     cut_list(here, large, rank, r, list)
 }
 
+// The tables of the searches over a few faces: only a chart where someone is left over pays for them.
+fn search_few(
+    chart: &[u8],
+    n: usize,
+    here: &[u16],
+    first: &[u16],
+    large: &mut [u16],
+    spare: &mut [u16],
+    list: &mut [u16],
+    w: usize,
+) -> usize
+    requires { ⌜ Left (now chart) n (now here) (now list) (now first) (now large) (now spare) w × (faces (drawing (now chart)) ≤ 32) ⌝ }
+    ensures { λ r. ⌜ Rest (drawing (now (chart .entry))) (now (here .entry)) (now (list .entry)) (hold (drawing (now (chart .entry))) (now (here .entry)) (now (large .entry)) (now (spare .entry))) (now (large .exit)) (now (list .exit)) r ⌝ }
+{
+    let mut rank = [0u16; 32];
+    let mut via = [0u16; 32];
+    let f = spare.len();
+    searches(
+        chart,
+        n,
+        here,
+        first,
+        large,
+        spare,
+        &mut rank[0..f],
+        &mut via[0..f],
+        list,
+        w,
+    )
+}
+
+// The tables of the searches over any faces.
+fn search_any(
+    chart: &[u8],
+    n: usize,
+    here: &[u16],
+    first: &[u16],
+    large: &mut [u16],
+    spare: &mut [u16],
+    list: &mut [u16],
+    w: usize,
+) -> usize
+    requires { ⌜ Left (now chart) n (now here) (now list) (now first) (now large) (now spare) w ⌝ }
+    ensures { λ r. ⌜ Rest (drawing (now (chart .entry))) (now (here .entry)) (now (list .entry)) (hold (drawing (now (chart .entry))) (now (here .entry)) (now (large .entry)) (now (spare .entry))) (now (large .exit)) (now (list .exit)) r ⌝ }
+{
+    let mut rank = [0u16; 3072];
+    let mut via = [0u16; 3072];
+    let f = spare.len();
+    searches(
+        chart,
+        n,
+        here,
+        first,
+        large,
+        spare,
+        &mut rank[0..f],
+        &mut via[0..f],
+        list,
+        w,
+    )
+}
+
+// Searches for the places of those who are left, if any are.
+fn rest(
+    chart: &[u8],
+    n: usize,
+    here: &[u16],
+    first: &[u16],
+    large: &mut [u16],
+    spare: &mut [u16],
+    list: &mut [u16],
+    w: usize,
+) -> usize
+    requires { ⌜ Left (now chart) n (now here) (now list) (now first) (now large) (now spare) w ⌝ }
+    ensures { λ r. ⌜ Rest (drawing (now (chart .entry))) (now (here .entry)) (now (list .entry)) (hold (drawing (now (chart .entry))) (now (here .entry)) (now (large .entry)) (now (spare .entry))) (now (large .exit)) (now (list .exit)) r ⌝ }
+{
+    if list.len() <= w {
+        return 65535;
+    }
+    if spare.len() <= 32 {
+        return search_few(chart, n, here, first, large, spare, list, w);
+    }
+    search_any(chart, n, here, first, large, spare, list, w)
+}
+
 // Writes a labelling and returns 65535; or writes the events of a cut, ascending, and returns how many there are.
-// The list comes with the sources and sinks marked, and goes with the cut.
+// The list comes with the sources and sinks marked, and goes with the cut. The table large is scratch.
 pub fn find_places(
     chart: &[u8],
     n: usize,
     here: &[u16],
     first: &[u16],
     spare: &mut [u16],
+    large: &mut [u16],
     labels: &mut [u8],
     list: &mut [u16],
 ) -> usize
-    requires { ⌜ Shape (now chart) n × Ready (drawing (now chart)) (now here) (now list) (now first) (now spare) × (length (now labels) ≡ n) ⌝ }
+    requires { ⌜ Shape (now chart) n × Ready (drawing (now chart)) (now here) (now list) (now first) (now spare) × (length (now large) ≡ drawing (now chart) .events) × (length (now labels) ≡ n) ⌝ }
     ensures { λ r. ⌜ Found (drawing (now (chart .entry))) (now (labels .entry)) (now (labels .exit)) (now (list .exit)) r ⌝ }
 {
-    let mut large = [65535u16; 1024];
-    let mut rank = [0u16; 6144];
-    let mut via = [0u16; 6144];
-    let v = list.len();
-    place(
-        chart,
-        n,
-        here,
-        first,
-        spare,
-        &mut large[0..v],
-        &mut rank[0..n],
-        &mut via[0..n],
-        labels,
-        list,
-    )
+    // nobody is placed
+    words::fill(large, 65535);
+    let w = seat_all(chart, n, here, list, first, large, spare);
+    let k = rest(chart, n, here, first, large, spare, list, w);
+    if k < 65535 {
+        return k;
+    }
+    write_labels(chart, n, large, labels);
+    65535
 }

@@ -6,10 +6,10 @@ use native.Mathlib.Nat.{not-suc-le-zero, le-of-suc-le-suc}
 use lib.ListN.{length, getD, List·getD-eq-default}
 use Rattle.finite.specs.Steps.{iter, Into, Inj, Reach}
 use Rattle.finite.proofs.Orbit.{iter-into}
-use Rattle.drawing.specs.Drawing.{Drawing, darts, after, walk}
+use Rattle.drawing.specs.Drawing.{Drawing, darts, after, walk, faces}
 use Rattle.drawing.proofs.Twins.{twin-into, twin-inj}
 use Rattle.drawing.proofs.Rounds.{after-inj}
-use Rattle.drawing.proofs.Faces.{corner-into, corner-twin, face-same}
+use Rattle.drawing.proofs.Faces.{corner-twin, face-same}
 use Rattle.words.specs.Tables.{nth}
 use Rattle.placing.specs.Board.{Board, turn, faceOf}
 
@@ -26,8 +26,8 @@ pub face-none : (here : List ℕ) (c : ℕ) → length here ≤ c → faceOf her
 face-none here c l = List·getD-eq-default here (length here) l
 
 module _ {g : Drawing} {here : List ℕ} (B : Board g here) where
-  pub here-into : Into (darts g) (darts g) (nth here)
-  here-into c l = rw (B .faced .each c l) (corner-into g (B .even) (B .rings) c l)
+  pub here-into : Into (darts g) (faces g) (nth here)
+  here-into = B .keyed .inside
 
   pub turn-into : Into (darts g) (darts g) (turn g)
   turn-into c l = twin-into (darts g) (B .even) (after g c) (B .rings .inside c l)
@@ -38,7 +38,7 @@ module _ {g : Drawing} {here : List ℕ} (B : Board g here) where
   -- the next corner of a face is a corner of it
   pub turn-stays : (c : ℕ) → c < darts g → nth here (turn g c) ≡ nth here c
   turn-stays c l =
-      B .faced .each (turn g c) (turn-into c l) ∙ corner-twin g (B .even) (B .rings) (after g c) (B .rings .inside c l) ∙ sym (B .faced .each c l)
+      B .keyed .same (turn g c) c (turn-into c l) l .0 (corner-twin g (B .even) (B .rings) (after g c) (B .rings .inside c l))
 
   turns : (k c : ℕ) → iter (walk g) k (after g c) ≡ after g (iter (turn g) k c)
   unfolding iter
@@ -48,5 +48,5 @@ module _ {g : Drawing} {here : List ℕ} (B : Board g here) where
   -- and each corner of it is met so
   pub turn-meets : (c e : ℕ) → c < darts g → e < darts g → nth here c ≡ nth here e → Reach (turn g) c e
   turn-meets c e l m q =
-      let r = face-same g (B .even) (B .rings) (after g c) (after g e) (B .rings .inside c l) (B .rings .inside e m) .1 (sym (B .faced .each c l) ∙ q ∙ B .faced .each e m) in
+      let r = face-same g (B .even) (B .rings) (after g c) (after g e) (B .rings .inside c l) (B .rings .inside e m) .1 (B .keyed .same c e l m .1 q) in
       (r .0, after-inj g (B .rings) (iter (turn g) (r .0) c) e (iter-into (darts g) (turn g) turn-into (r .0) c l) m (sym (turns (r .0) c) ∙ r .1))

@@ -8,15 +8,16 @@ use native.Mathlib.Decide.{ℕ-discrete, decLt}
 use native.Mathlib.Omega.{arith}
 use lib.ListN.{length}
 use Rattle.finite.specs.Sums.{sum, δ, class}
-use Rattle.finite.proofs.Sum.{δ-other, δ-le, sum-cong}
+use Rattle.finite.proofs.Sum.{δ-other, δ-le, sum-cong, sum-prefix}
 use Rattle.finite.proofs.Class.{cut}
 use Rattle.finite.proofs.Filled.{past}
-use Rattle.drawing.specs.Drawing.{Drawing, darts, event}
+use Rattle.drawing.specs.Drawing.{Drawing, darts, event, faces}
 use Rattle.words.specs.Tables.{nth}
+use Rattle.chart.proofs.Keys.{faces-few}
 use Rattle.placing.specs.Board.{Board, Own, faceOf, load, hold, Valid, Crowd}
-use Rattle.placing.specs.Search.{Seen, Grown, Touched, PlacedIn, Scanned, From, Search, Way, member}
+use Rattle.placing.specs.Search.{Seen, Grown, Touched, PlacedIn, Scanned, Reached, From, Search, Way, member}
 use Rattle.placing.proofs.Boards.{face-of, face-none, here-into}
-use Rattle.placing.proofs.Listing.{seen-kept, ends-few}
+use Rattle.placing.proofs.Listing.{seen-kept, grown-as, ends-few}
 
 -- the old entries stand
 pub from-kept : (g : Drawing) {here : List ℕ} (L : List ℕ) (u : ℕ) {P : ℕ → Type 0} {rank via : List ℕ} {t : ℕ} {rank′ via′ : List ℕ} {t′ : ℕ} → Grown here P rank via t rank′ via′ t′
@@ -24,15 +25,22 @@ pub from-kept : (g : Drawing) {here : List ℕ} (L : List ℕ) (u : ℕ) {P : �
 from-kept g {here} L u {via = via} G i l w =
     rw (G .same i l) (⊎-elim (λ a. inl a) (λ b. inr (b .0, rw (G .kept (nth here (nth L (event g (nth via i)))) (b .1 .0)) (b .1))) w)
 
-pub search-start : {g : Drawing} {here L s : List ℕ} {u : ℕ} {rank₀ via₀ rank via : List ℕ} {t : ℕ} → Touched g here u rank₀ via₀ 0 rank via t → Search g here L s u rank via 0 t
-search-start T = record {
+pub search-start : {g : Drawing} {here L s : List ℕ} {u : ℕ} {rank₀ via₀ rank via : List ℕ} {t : ℕ} → length rank₀ ≡ faces g → Touched g here s u rank₀ via₀ 0 rank via t → Search g here L s u rank via 0 t
+search-start e T = record {
   held = T .grown .held;
+  ranks = T .grown .size ∙ e;
   within = omega arith;
-  from = λ i a. inl (T .grown .new i (omega arith) a);
-  full = λ i a. absurd (omega arith);
+  from = λ i a. inl (T .grown .new i (omega arith) a .0);
+  full = λ i a. T .grown .new i (omega arith) a .1;
   closed = λ i a. absurd (omega arith);
   first = T .seen;
 }
+
+-- a face with room at once
+pub way-start : {g : Drawing} {here : List ℕ} (L : List ℕ) {s : List ℕ} {u : ℕ} {rank₀ via₀ rank via : List ℕ} {r : ℕ} → Reached here s (λ d. event g d ≡ u) rank₀ via₀ 0 rank via r → Way g here L s u rank via (r - 65537)
+way-start L {r = r} R =
+    let last : r - 65537 < r - 65536 = omega (arith, R .some) in
+    record { end = r - 65536; held = R .grown .held; inside = last; from = λ j a. inl (R .grown .new j (omega arith) (omega arith)); spare = R .room }
 
 -- an event that is placed is at a corner of its own
 pub at-own : (g : Drawing) (L : List ℕ) → Own g L → (v : ℕ) → v < g .events → nth L v < darts g → event g (nth L v) ≡ v
@@ -45,42 +53,39 @@ module _ {g : Drawing} {here L s : List ℕ} {u : ℕ} {rank via : List ℕ} {h 
   -- the corner c of entry h, and its face f
   module _ (l : h < t) {c : ℕ} (is-c : c ≡ nth via h) where
     pub corner-in : c < darts g
-    corner-in = omega (arith, Q .held .entry h l .0, B .faced .size)
+    corner-in = omega (arith, Q .held .entry h l .0, B .keyed .size)
 
-    step : {rank′ via′ : List ℕ} {t′ : ℕ} → nth s (nth here (nth via h)) < 1 → Scanned g here L (nth via h) rank via t rank′ via′ t′
-        → Search g here L s u rank′ via′ (h + 1) t′
-    step {rank′} {via′} {t′} z S = record {
+    from-more : {rank′ via′ : List ℕ} {t′ : ℕ} → Grown here (PlacedIn g here L (nth here c)) rank via t rank′ via′ t′ → (i : ℕ) → i < t′ → From g here L u rank′ via′ i
+    from-more {rank′} {via′} G i a = elim (decLt i t) [
+      | yes q ↦ from-kept g L u G i q (Q .from i q)
+      | no q ↦
+          let w : PlacedIn g here L (nth here c) (nth via′ i) = G .new i (omega arith) a in
+          let r : nth rank (nth here c) ≡ h + 1 = ap (λ (x : ℕ). nth rank (nth here x)) is-c ∙ Q .held .entry h l .1 in
+          let r′ : nth rank′ (nth here c) ≡ nth rank (nth here c) = G .kept (nth here c) (omega arith) in
+          inr (w .0, rw (w .1) (omega arith, omega arith))
+    ]
+
+    pub search-step : {rank′ via′ : List ℕ} {t′ : ℕ} → Scanned g here L s c rank via t rank′ via′ t′ → Search g here L s u rank′ via′ (h + 1) t′
+    search-step {rank′} {via′} {t′} S = record {
       held = S .grown .held;
+      ranks = S .grown .size ∙ Q .ranks;
       within = omega (arith, S .grown .longer);
-      from = λ i a. elim (decLt i t) [
-        | yes q ↦ from-kept g L u (S .grown) i q (Q .from i q)
-        | no q ↦
-            let w : PlacedIn g here L (nth here (nth via h)) (nth via′ i) = S .grown .new i (omega arith) a in
-            let r : nth rank (nth here (nth via h)) ≡ h + 1 = Q .held .entry h l .1 in
-            let r′ : nth rank′ (nth here (nth via h)) ≡ nth rank (nth here (nth via h)) = S .grown .kept (nth here (nth via h)) (omega arith) in
-            inr (w .0, rw (w .1) (omega arith, omega arith))
+      from = from-more (grown-as (S .grown) (λ d a q. q .0));
+      full = λ i a. elim (decLt i t) [
+        | yes q ↦ rw (S .grown .same i q) (Q .full i q)
+        | no q ↦ S .grown .new i (omega arith) a .1
       ];
-      full = λ i a. rw (S .grown .same i (omega (arith, Q .within))) (elim (ℕ-discrete i h) [ yes e ↦ rw e (omega arith) | no e ↦ Q .full i (omega arith) ]);
       closed = λ i a d b. rw (S .grown .same i (omega (arith, Q .within))) (elim (ℕ-discrete i h) [
-        | yes e ↦ rw e (λ w. S .seen d b (at-own g L (K .own) (event g d) (B .known d b) (w .0)) w)
+        | yes e ↦ rw (e, sym is-c) (λ w. S .seen d b (at-own g L (K .own) (event g d) (B .known d b) (w .0)) w)
         | no e ↦ λ w. seen-kept (S .grown) (nth here d) (Q .closed i (omega arith) d b w)
       ]);
       first = λ d b e. seen-kept (S .grown) (nth here d) (Q .first d b e);
     }
 
-    module _ {f : ℕ} (is-f : f ≡ nth here c) where
-      pub face-in : f < darts g
-      face-in = omega (arith, here-into B c corner-in)
-
-      same-f : f ≡ nth here (nth via h)
-      same-f = is-f ∙ ap (nth here) is-c
-
-      pub way : 1 ≤ nth s f → Way g here L s u rank via h
-      way p = record { end = t; held = Q .held; inside = l; from = λ j a. Q .from j (omega arith); spare = rw same-f at p }
-
-      pub search-step : {rank′ via′ : List ℕ} {t′ : ℕ} → nth s f < 1 → Scanned g here L c rank via t rank′ via′ t′
-          → Search g here L s u rank′ via′ (h + 1) t′
-      search-step z S = step (rw same-f at z) (rw is-c at S)
+    pub way-step : {rank′ via′ : List ℕ} {r : ℕ} → Reached here s (PlacedIn g here L (nth here c)) rank via t rank′ via′ r → Way g here L s u rank′ via′ (r - 65537)
+    way-step {r = r} R =
+        let last : r - 65537 < r - 65536 = omega (arith, R .some) in
+        record { end = r - 65536; held = R .grown .held; inside = last; from = λ j a. from-more (R .grown) j (omega arith); spare = R .room }
 
   -- nothing is left to do: u and all who are placed in a listed face are too many
   module _ (l : t ≤ h) (u-in : u < g .events) (free : darts g ≤ nth L u) where
@@ -98,15 +103,15 @@ module _ {g : Drawing} {here L s : List ℕ} {u : ℕ} {rank via : List ℕ} {h 
         Q .closed (nth rank (nth here (nth L (event g d))) - 1) (omega arith) d b (p, sym (r .1))
 
     nowhere : (v : ℕ) → darts g ≤ nth L v → nth rank (faceOf here (nth L v)) ≡ 0
-    nowhere v z = rw (face-none here (nth L v) (omega (arith, B .faced .size))) (past rank (length here) (omega (arith, Q .held .ranks)))
+    nowhere v z = rw (face-none here (nth L v) (omega (arith, B .keyed .size))) (past rank (length here) (Q .held .ranks))
 
     somewhere : (v : ℕ) → nth L v < darts g → faceOf here (nth L v) ≡ nth here (nth L v)
-    somewhere v z = face-of here (nth L v) (omega (arith, B .faced .size))
+    somewhere v z = face-of here (nth L v) (omega (arith, B .keyed .size))
 
     into : (v : ℕ) → v < g .events → faceOf here (nth L v) < suc (darts g)
     into v b = ⊎-elim
-        (λ z. omega (arith, face-none here (nth L v) (omega (arith, B .faced .size)), B .faced .size))
-        (λ w. omega (arith, somewhere v (w .0), here-into B (nth L v) (w .0)))
+        (λ z. omega (arith, face-none here (nth L v) (omega (arith, B .keyed .size)), B .keyed .size))
+        (λ w. omega (arith, somewhere v (w .0), here-into B (nth L v) (w .0), faces-few g))
         (K .own v b)
 
     touch : (c : ℕ) → c < darts g → member here L rank u (event g c) ≤ min 1 (nth rank (nth here c))
@@ -137,13 +142,12 @@ module _ {g : Drawing} {here L s : List ℕ} {u : ℕ} {rank via : List ℕ} {h 
       | no d ↦ omega (arith, δ-other u v d)
     ]
 
-    pub stuck : Crowd g (hold g here L s) (member here L rank u)
-    unfolding sum
+    pub stuck : Crowd g here (hold g here L s) (member here L rank u)
     stuck = record {
       t = λ f. min 1 (nth rank f);
-      touch = λ c b. rw (← B .faced .each c b) (touch c b);
+      touch = touch;
       over =
           let c : sum (suc (darts g)) (λ f. min 1 (nth rank f) * hold g here L s f) < sum (g .events) (member here L rank u) =
           cut (g .events) (suc (darts g)) (λ v. 1) (λ v. faceOf here (nth L v)) (hold g here L s) (member here L rank u) (λ f. min 1 (nth rank f)) u into u-in full closed in
-          omega arith;
+          omega (arith, sum-prefix (faces g) (suc (darts g)) (λ f. min 1 (nth rank f) * hold g here L s f) (omega (arith, faces-few g)));
     }

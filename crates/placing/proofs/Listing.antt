@@ -9,14 +9,13 @@ use lib.ListN.{length, set, length-set}
 use lib.Seq.{getD-set-same, getD-set-other}
 use Rattle.finite.specs.Steps.{Into, Inj}
 use Rattle.finite.proofs.Perm.{inj-le, onto}
-use Rattle.finite.proofs.Filled.{past}
 use Rattle.words.specs.Tables.{nth}
-use Rattle.placing.specs.Search.{Seen, Blank, Held, Grown, Listed}
+use Rattle.placing.specs.Search.{Seen, Blank, Held, Grown, Listed, Adds, Reached}
 
 -- ---- growing
 
 pub grown-none : {here rank via : List ℕ} {t : ℕ} (P : ℕ → Type 0) → Held here rank via t → Grown here P rank via t rank via t
-grown-none P H = record { held = H; longer = omega arith; kept = λ f s. refl; same = λ i l. refl; new = λ i a b. absurd (omega arith) }
+grown-none P H = record { held = H; size = refl; longer = omega arith; kept = λ f s. refl; same = λ i l. refl; new = λ i a b. absurd (omega arith) }
 
 pub seen-kept : {here : List ℕ} {P : ℕ → Type 0} {rank via : List ℕ} {t : ℕ} {rank′ via′ : List ℕ} {t′ : ℕ}
     → Grown here P rank via t rank′ via′ t′ → (f : ℕ) → Seen rank f → Seen rank′ f
@@ -27,6 +26,7 @@ pub grown-more : {here : List ℕ} {P Q : ℕ → Type 0} {rank via : List ℕ} 
     → Grown here P rank via t rank″ via″ t″
 grown-more {P = P} {t′ = t′} {via″ = via″} G K sub = record {
   held = K .held;
+  size = K .size ∙ G .size;
   longer = omega (arith, G .longer, K .longer);
   kept = λ f s. K .kept f (seen-kept G f s) ∙ G .kept f s;
   same = λ i l. K .same i (omega (arith, G .longer)) ∙ G .same i l;
@@ -40,13 +40,14 @@ pub grown-as : {here : List ℕ} {P Q : ℕ → Type 0} {rank via : List ℕ} {t
     → Grown here P rank via t rank′ via′ t′ → ((d : ℕ) → d < length here → P d → Q d) → Grown here Q rank via t rank′ via′ t′
 grown-as {via′ = via′} G sub = record {
   held = G .held;
+  size = G .size;
   longer = G .longer;
   kept = G .kept;
   same = G .same;
   new = λ i a b. sub (nth via′ i) (G .held .entry i b .0) (G .new i a b);
 }
 
-pub held-none : {here rank via : List ℕ} → ((c : ℕ) → c < length here → nth here c < length here) → length rank ≡ length here → length via ≡ length here → Blank rank
+pub held-none : {here rank via : List ℕ} → ((c : ℕ) → c < length here → nth here c < length rank) → length rank ≤ length here → length via ≡ length rank → Blank rank
     → Held here rank via 0
 held-none into r v b = record {
   into = into;
@@ -61,15 +62,11 @@ module _ {here rank via : List ℕ} {t : ℕ} (H : Held here rank via t) where
   apart : Inj t (λ i. nth here (nth via i))
   apart i j a b q = omega (arith, H .entry i a .1, H .entry j b .1, ap (nth rank) q)
 
-  inside : Into t (length here) (λ i. nth here (nth via i))
+  inside : Into t (length rank) (λ i. nth here (nth via i))
   inside i a = H .into (nth via i) (H .entry i a .0)
 
-  pub ends-few : t ≤ length here
-  ends-few = inj-le t (length here) (λ i. nth here (nth via i)) apart inside
-
-  -- a listed face is one
-  pub seen-in : (f : ℕ) → Seen rank f → f < length here
-  seen-in f s = elim (decLt f (length here)) [ yes q ↦ q | no q ↦ absurd (omega (arith, past rank f (omega (arith, H .ranks)))) ]
+  pub ends-few : t ≤ length rank
+  ends-few = inj-le t (length rank) (λ i. nth here (nth via i)) apart inside
 
   module _ (c : ℕ) (l : c < length here) where
     pub listed-none : Seen rank (nth here c) → Listed here c rank via t rank via t
@@ -77,19 +74,19 @@ module _ {here rank via : List ℕ} {t : ℕ} (H : Held here rank via t) where
 
     module _ (new : nth rank (nth here c) < 1) where
       -- a face that is not listed leaves room in the list
-      pub end-in : t < length here
+      pub end-in : t < length rank
       end-in =
-          let le : t ≤ length here = ends-few in
-          elim (ℕ-discrete t (length here)) [
+          let le : t ≤ length rank = ends-few in
+          elim (ℕ-discrete t (length rank)) [
             | yes e ↦
-                let o = onto (length here) (λ i. nth here (nth via i)) (λ i j a b. apart i j (omega arith) (omega arith)) (λ i a. inside i (omega arith)) (nth here c) (H .into c l) in
+                let o = onto (length rank) (λ i. nth here (nth via i)) (λ i j a b. apart i j (omega arith) (omega arith)) (λ i a. inside i (omega arith)) (nth here c) (H .into c l) in
                 let k : o .0 < t = omega (arith, o .1) in
                 absurd (omega (arith, H .entry (o .0) k .1, ap (nth rank) (o .2)))
             | no e ↦ omega arith
           ]
 
       at-f : nth (set rank (nth here c) (t + 1)) (nth here c) ≡ t + 1
-      at-f = getD-set-same rank (nth here c) (t + 1) 0 (omega (arith, H .ranks, H .into c l))
+      at-f = getD-set-same rank (nth here c) (t + 1) 0 (H .into c l)
 
       other : (f : ℕ) → f ≢ nth here c → nth (set rank (nth here c) (t + 1)) f ≡ nth rank f
       other f q = getD-set-other rank (nth here c) f (t + 1) 0 q
@@ -107,9 +104,9 @@ module _ {here rank via : List ℕ} {t : ℕ} (H : Held here rank via t) where
       listed-more = record {
         grown = record {
           held = record {
-            into = H .into;
-            ranks = length-set rank (nth here c) (t + 1) ∙ H .ranks;
-            vias = length-set via t c ∙ H .vias;
+            into = λ d m. omega (arith, H .into d m, length-set rank (nth here c) (t + 1));
+            ranks = omega (arith, length-set rank (nth here c) (t + 1), H .ranks);
+            vias = length-set via t c ∙ H .vias ∙ sym (length-set rank (nth here c) (t + 1));
             entry = λ i a. elim (ℕ-discrete i t) [
               | yes e ↦ rw (e, at-t) (l, at-f)
               | no e ↦
@@ -128,6 +125,7 @@ module _ {here rank via : List ℕ} {t : ℕ} (H : Held here rank via t) where
                   (omega arith, rw (r, before (nth rank f - 1) (omega arith)) (h .1))
             ];
           };
+          size = length-set rank (nth here c) (t + 1);
           longer = omega arith;
           kept = λ f s. other f (seen-other f s);
           same = before;
@@ -139,16 +137,44 @@ module _ {here rank via : List ℕ} {t : ℕ} (H : Held here rank via t) where
 -- the same, for the face f of the corner
 module _ {here rank via : List ℕ} {t : ℕ} (H : Held here rank via t) {c : ℕ} (l : c < length here) {f : ℕ} (e : f ≡ nth here c) where
   pub list-in : f < length rank
-  list-in = omega (arith, H .into c l, H .ranks)
+  list-in = omega (arith, H .into c l)
 
-  pub list-room : nth rank f < 1 → t < length here
+  pub list-room : nth rank f < 1 → t < length rank
   list-room new = end-in H c l (rw e at new)
-
-  pub list-old : Seen rank f → Listed here c rank via t rank via t
-  list-old s = listed-none H c l (rw e at s)
 
   pub list-new : nth rank f < 1 → {rank′ via′ : List ℕ} → rank′ ≡ set rank f (t + 1) → via′ ≡ set via t c → Listed here c rank via t rank′ via′ (t + 1)
   list-new new r v = rw (r, v, e) (listed-more H c l (rw e at new))
+
+-- the same, with the room of the face looked at
+module _ {here rank via : List ℕ} (s : List ℕ) {t : ℕ} (H : Held here rank via t) {c : ℕ} (l : c < length here) {f : ℕ} (e : f ≡ nth here c) where
+  pub added-old : Seen rank f → t < 65536 → Adds here s c rank via t rank via t
+  added-old w few = ((λ q. record { grown = grown-none _ H; seen = rw e at w }), λ q. absurd (omega arith))
+
+  module _ (new : nth rank f < 1) {rank′ via′ : List ℕ} (r : rank′ ≡ set rank f (t + 1)) (v : via′ ≡ set via t c) where
+    pub added-full : nth s f < 1 → t + 1 < 65536 → Adds here s c rank via t rank′ via′ (t + 1)
+    added-full z few =
+        let M : Listed here c rank via t rank′ via′ (t + 1) = list-new H l e new r v in (
+          (λ q. record { grown = grown-as (M .grown) (λ d a i. (i, omega (arith, ap (nth s) (ap (nth here) i ∙ sym e)))); seen = M .seen }),
+          λ q. absurd (omega arith),
+        )
+
+    pub added-room : {x : ℕ} → x ≡ 65537 + t → 1 ≤ nth s f → Adds here s c rank via t rank′ via′ x
+    added-room {x} i z =
+        let M : Listed here c rank via t rank′ via′ (t + 1) = list-new H l e new r v in
+        let end : x - 65536 ≡ t + 1 = omega arith in
+        let last : x - 65537 ≡ t = omega arith in (
+          (λ q. absurd (omega arith)),
+          λ q. record {
+            grown = rw end (M .grown);
+            some = omega arith;
+            room = rw last (omega (arith, z, ap (nth s) (e ∙ ap (nth here) (sym (M .grown .new t (omega arith) (omega arith))))));
+          },
+        )
+
+-- by other corners
+pub reached-as : {here s : List ℕ} {P Q : ℕ → Type 0} {rank via : List ℕ} {t : ℕ} {rank′ via′ : List ℕ} {r : ℕ}
+    → Reached here s P rank via t rank′ via′ r → ((d : ℕ) → d < length here → P d → Q d) → Reached here s Q rank via t rank′ via′ r
+reached-as R sub = record { grown = grown-as (R .grown) sub; some = R .some; room = R .room }
 
 -- ---- taking back: the first i entries are cleared
 
@@ -174,7 +200,7 @@ module _ {here rank via : List ℕ} {t : ℕ} {rank′ : List ℕ} {i : ℕ} (C 
   clear-corner l = C .held .entry i l .0
 
   pub clear-face : i < t → nth here (nth via i) < length rank′
-  clear-face l = omega (arith, C .held .into (nth via i) (clear-corner l), C .held .ranks, C .ranks)
+  clear-face l = omega (arith, C .held .into (nth via i) (clear-corner l), C .ranks)
 
   pub clear-step : i < t → Clearing here rank via t (set rank′ (nth here (nth via i)) 0) (i + 1)
   clear-step l = record {

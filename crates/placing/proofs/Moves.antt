@@ -9,8 +9,9 @@ use lib.ListN.{length, set, length-set}
 use lib.Seq.{getD-set-same, getD-set-other}
 use Rattle.finite.specs.Sums.{δ}
 use Rattle.finite.proofs.Sum.{sum-change, δ-eq, δ-other, δ-same}
-use Rattle.drawing.specs.Drawing.{Drawing, darts, event}
+use Rattle.drawing.specs.Drawing.{Drawing, darts, event, faces}
 use Rattle.words.specs.Tables.{nth}
+use Rattle.chart.proofs.Keys.{faces-few}
 use Rattle.placing.specs.Board.{Board, Own, faceOf, load, hold, Valid}
 use Rattle.placing.specs.Search.{Seen, From, Way, Placed}
 use Rattle.placing.proofs.Boards.{face-of, face-none, here-into}
@@ -52,7 +53,7 @@ module _ {g : Drawing} {here L s : List ℕ} {e c f : ℕ} (T : Seat g here L s 
   pub event-in : e < g .events
   event-in = omega (arith, T .own, T .board .known c (T .inside))
 
-  pub face-in : f < darts g
+  pub face-in : f < faces g
   face-in = omega (arith, T .face, here-into (T .board) c (T .inside))
 
   now-there : nth (set L e c) e ≡ c
@@ -67,11 +68,11 @@ module _ {g : Drawing} {here L s : List ℕ} {e c f : ℕ} (T : Seat g here L s 
     | no d ↦ rw (other v d) (T .valid .own v l)
   ]
 
-  valid₁ : {s′ : List ℕ} → length s′ ≡ darts g → Valid g (set L e c) s′
-  valid₁ k = record { events = length-set L e c ∙ T .valid .events; faces = k; own = own₁ }
+  valid₁ : {s′ : List ℕ} → length s′ ≡ faces g → Valid g (set L e c) s′
+  valid₁ k = record { events = length-set L e c ∙ T .valid .events; keys = k; own = own₁ }
 
-  faces₁ : length (set s f (nth s f - 1)) ≡ darts g
-  faces₁ = length-set s f (nth s f - 1) ∙ T .valid .faces
+  faces₁ : length (set s f (nth s f - 1)) ≡ faces g
+  faces₁ = length-set s f (nth s f - 1) ∙ T .valid .keys
 
   none₁ : (v : ℕ) → v ≢ e → darts g ≤ nth L v → darts g ≤ nth (set L e c) v
   none₁ v d z = rw (other v d) z
@@ -85,24 +86,24 @@ module _ {g : Drawing} {here L s : List ℕ} {e c f : ℕ} (T : Seat g here L s 
   -- what changes in the face x
   load₁ : (x : ℕ) → load g here L x + δ f x ≡ load g here (set L e c) x + δ (faceOf here (nth L e)) x
   load₁ x =
-      let q : faceOf here c ≡ f = face-of here c (omega (arith, T .inside, T .board .faced .size)) ∙ sym (T .face) in
+      let q : faceOf here c ≡ f = face-of here c (omega (arith, T .inside, T .board .keyed .size)) ∙ sym (T .face) in
       rw q at (load-set g here L e c x (T .valid .events) event-in)
 
   spare₁ : (x : ℕ) → nth (set s f (nth s f - 1)) x + δ f x ≡ nth s x
-  spare₁ x = less-one s f x (omega (arith, T .valid .faces, face-in)) (T .room)
+  spare₁ x = less-one s f x (omega (arith, T .valid .keys, face-in)) (T .room)
 
   -- it had no place before
   pub placed-here : darts g ≤ nth L e → Placed g here L s e (set L e c) (set s f (nth s f - 1))
   placed-here free = record {
     valid = valid₁ faces₁;
-    total = λ x l. omega (arith, load₁ x, spare₁ x, δ-other (faceOf here (nth L e)) x (omega (arith, nowhere, T .board .faced .size)));
+    total = λ x l. omega (arith, load₁ x, spare₁ x, δ-other (faceOf here (nth L e)) x (omega (arith, nowhere, T .board .keyed .size, faces-few g)));
     placed = rw now-there (T .inside);
     none = λ v l d z. none₁ v d z;
     still = λ v l d z. still₁ v z;
   }
     where
       nowhere : faceOf here (nth L e) ≡ length here
-      nowhere = face-none here (nth L e) (omega (arith, free, T .board .faced .size))
+      nowhere = face-none here (nth L e) (omega (arith, free, T .board .keyed .size))
 
 -- ---- the state of the moves: the placement L with the room s, after moves from L₀ and s₀; the face at place i of the list has room
 
@@ -111,7 +112,7 @@ pub record Moving (g : Drawing) (here L₀ s₀ : List ℕ) (u : ℕ) (rank via 
   pub valid : Valid g L s
   pub way : Way g here L s u rank via i
   pub free : darts g ≤ nth L u
-  pub total : (f : ℕ) → f < darts g → hold g here L s f ≡ hold g here L₀ s₀ f
+  pub total : (f : ℕ) → f < faces g → hold g here L s f ≡ hold g here L₀ s₀ f
   pub none : (v : ℕ) → v < g .events → v ≢ u → darts g ≤ nth L₀ v → darts g ≤ nth L v
   pub still : (v : ℕ) → v < g .events → v ≢ u → nth L₀ v < darts g → nth L v < darts g
 
@@ -123,13 +124,13 @@ module _ {g : Drawing} {here L₀ s₀ : List ℕ} {u : ℕ} {rank via L s : Lis
   pub place-in : i < length via
   place-in = omega (arith, ends-few (M .way .held), M .way .inside, M .way .held .vias)
 
-  pub spare-few : (f : ℕ) → f < darts g → nth s f ≤ hold g here L₀ s₀ f
+  pub spare-few : (f : ℕ) → f < faces g → nth s f ≤ hold g here L₀ s₀ f
   spare-few f l = omega (arith, M .total f l)
 
   -- the corner c of entry i, its event e and its face f
   module _ {c : ℕ} (is-c : c ≡ nth via i) where
     pub corner-in : c < darts g
-    corner-in = omega (arith, M .way .held .entry i (M .way .inside) .0, M .board .faced .size)
+    corner-in = omega (arith, M .way .held .entry i (M .way .inside) .0, M .board .keyed .size)
 
     module _ {e : ℕ} (is-e : e ≡ event g c) {f : ℕ} (is-f : f ≡ nth here c) where
       pub seat : Seat g here L s e c f
@@ -172,7 +173,7 @@ module _ {g : Drawing} {here L₀ s₀ : List ℕ} {u : ℕ} {rank via L s : Lis
           same-h : h ≡ nth here (nth L e)
           same-h = is-h ∙ ap (nth here) is-old
 
-          pub old-face : h < darts g
+          pub old-face : h < faces g
           old-face = omega (arith, here-into (M .board) old old-in)
 
           pub old-rank : (1 ≤ nth rank h) × (nth rank h ≤ i)
@@ -182,7 +183,7 @@ module _ {g : Drawing} {here L₀ s₀ : List ℕ} {u : ℕ} {rank via L s : Lis
             is-s : s₁ ≡ set s f (nth s f - 1)
             is-s = stored ∙ ap (λ (x : ℕ). set s f (x - 1)) is-a
 
-            size₁ : length s₁ ≡ darts g
+            size₁ : length s₁ ≡ faces g
             size₁ = ap length is-s ∙ faces₁ seat
 
             pub old-size : h < length s₁
@@ -194,9 +195,9 @@ module _ {g : Drawing} {here L₀ s₀ : List ℕ} {u : ℕ} {rank via L s : Lis
             more₁ : (x : ℕ) → nth (set s₁ h (nth s₁ h + 1)) x ≡ nth s₁ x + δ h x
             more₁ x = more-one s₁ h x (omega (arith, size₁, old-face))
 
-            total₂ : (x : ℕ) → x < darts g → hold g here (set L e c) (set s₁ h (nth s₁ h + 1)) x ≡ hold g here L s x
+            total₂ : (x : ℕ) → x < faces g → hold g here (set L e c) (set s₁ h (nth s₁ h + 1)) x ≡ hold g here L s x
             total₂ x l =
-                let z : faceOf here (nth L e) ≡ h = face-of here (nth L e) (omega (arith, left .0, M .board .faced .size)) ∙ sym same-h in
+                let z : faceOf here (nth L e) ≡ h = face-of here (nth L e) (omega (arith, left .0, M .board .keyed .size)) ∙ sym same-h in
                 omega (arith, load₁ seat x, spare₁ seat x, more₁ x, ap (λ (y : ℕ). δ y x) z, ap (λ (y : List ℕ). nth y x) is-s)
 
             from₂ : (j : ℕ) → j ≤ nth rank h - 1 → From g here (set L e c) u rank via j

@@ -15,9 +15,9 @@ use Rattle.drawing.specs.Drawing.{Drawing, darts, event, after}
 use Rattle.drawing.proofs.Rounds.{after-reach}
 use Rattle.words.specs.Tables.{nth}
 use Rattle.placing.specs.Board.{Board, turn}
-use Rattle.placing.specs.Search.{Seen, Held, Grown, Listed, Touched, Visited, PlacedIn, Scanned}
+use Rattle.placing.specs.Search.{Seen, Held, Grown, Full, Added, Touched, Touches, PlacedAt, Visited, Visits, PlacedIn, Scanned, Scans, Reached}
 use Rattle.placing.proofs.Boards.{turn-into, turn-stays, turn-meets}
-use Rattle.placing.proofs.Listing.{grown-none, grown-more, grown-as, seen-kept}
+use Rattle.placing.proofs.Listing.{grown-none, grown-more, grown-as, reached-as, seen-kept}
 
 -- ---- a walk that comes back, with more listed at each step
 
@@ -66,30 +66,35 @@ module _ {n : ℕ} {p : ℕ → ℕ} {here : List ℕ} {S P : ℕ → Type 0} {Q
       seen = circuit-seen;
     }
 
+  -- a face with room ends it
+  circuit-stop : {P₀ P′ : ℕ → Type 0} {s rank₂ via₂ : List ℕ} {r : ℕ} → Reached here s P′ rank₁ via₁ t₁ rank₂ via₂ r → ((d : ℕ) → d < length here → P d → P₀ d) → ((d : ℕ) → d < length here → P′ d → P₀ d)
+      → Reached here s P₀ rank via t rank₂ via₂ r
+  circuit-stop R weak sub = record { grown = grown-more (grown-as (T .grown) weak) (R .grown) sub; some = R .some; room = R .room }
+
 -- ---- round an event
 
-abbrev pub Touching : Drawing → List ℕ → ℕ → List ℕ → List ℕ → ℕ → List ℕ → List ℕ → ℕ → ℕ → ℕ → Type 0
-Touching g here first =
-    Circuit (darts g) (after g) here (λ c. event g c ≡ event g first) (λ d. event g d ≡ event g first) (λ rank x. Seen rank (nth here x)) first
+abbrev pub Touching : Drawing → List ℕ → List ℕ → ℕ → List ℕ → List ℕ → ℕ → List ℕ → List ℕ → ℕ → ℕ → ℕ → Type 0
+Touching g here s first =
+    Circuit (darts g) (after g) here (λ c. event g c ≡ event g first) (λ d. (event g d ≡ event g first) × Full here s d) (λ rank x. Seen rank (nth here x)) first
 
-pub touch-start : {g : Drawing} {here : List ℕ} {first : ℕ} {rank via : List ℕ} {t : ℕ} → Board g here → first < darts g → Held here rank via t
-    → Touching g here first rank via t rank via t first 0
-touch-start B l H = circuit-start l refl H
+pub touch-start : {g : Drawing} {here : List ℕ} (s : List ℕ) {first : ℕ} {rank via : List ℕ} {t : ℕ} → Board g here → first < darts g → Held here rank via t
+    → Touching g here s first rank via t rank via t first 0
+touch-start s B l H = circuit-start l refl H
 
-module _ {g : Drawing} {here : List ℕ} (B : Board g here) {first : ℕ} {rank via : List ℕ} {t : ℕ} {rank₁ via₁ : List ℕ} {t₁ c k : ℕ}
-    (T : Touching g here first rank via t rank₁ via₁ t₁ c k) where
-  module _ {rank₂ via₂ : List ℕ} {t₂ : ℕ} (L : Listed here c rank₁ via₁ t₁ rank₂ via₂ t₂) where
-    same : (d : ℕ) → d < length here → d ≡ c → event g d ≡ event g first
-    same d l q = ap (event g) q ∙ T .stays
+module _ {g : Drawing} {here : List ℕ} (s : List ℕ) (B : Board g here) {first : ℕ} {rank via : List ℕ} {t : ℕ} {rank₁ via₁ : List ℕ} {t₁ c k : ℕ}
+    (T : Touching g here s first rank via t rank₁ via₁ t₁ c k) where
+  module _ {rank₂ via₂ : List ℕ} {t₂ : ℕ} (L : Added here s c rank₁ via₁ t₁ rank₂ via₂ t₂) where
+    same : (d : ℕ) → d < length here → (d ≡ c) × Full here s d → (event g d ≡ event g first) × Full here s d
+    same d l q = (ap (event g) (q .0) ∙ T .stays, q .1)
 
     still : (x : ℕ) → Seen rank₁ (nth here x) → Seen rank₂ (nth here x)
     still x s = seen-kept (L .grown) _ s
 
-    pub touch-step : after g c ≢ first → Touching g here first rank via t rank₂ via₂ t₂ (after g c) (k + 1)
+    pub touch-step : after g c ≢ first → Touching g here s first rank via t rank₂ via₂ t₂ (after g c) (k + 1)
     touch-step q = circuit-step T (L .grown) same still (L .seen) (B .rings .inside) (B .rings .stays c (T .inside) ∙ T .stays) q
 
-    pub touch-done : after g c ≡ first → Touched g here (event g first) rank via t rank₂ via₂ t₂
-    touch-done q = record {
+    touched : after g c ≡ first → Touched g here s (event g first) rank via t rank₂ via₂ t₂
+    touched q = record {
       grown = circuit-grown T (L .grown) same still (L .seen);
       seen = λ d l e.
           let m = walk-all (after g) first k c (T .walk) q d (after-reach g (B .rings) first d (T .start) l (sym e)) in
@@ -97,14 +102,20 @@ module _ {g : Drawing} {here : List ℕ} (B : Board g here) {first : ℕ} {rank 
           subst (λ (x : ℕ). Seen rank₂ (nth here x)) (m .2) (circuit-seen T (L .grown) same still (L .seen) (m .0) (omega arith));
     }
 
+    pub touch-done : after g c ≡ first → t₂ < 65536 → Touches g here s (event g first) rank via t rank₂ via₂ t₂
+    touch-done q few = ((λ l. touched q), λ l. absurd (omega arith))
+
+  pub touch-stop : {rank₂ via₂ : List ℕ} {r : ℕ} → Reached here s (λ d. d ≡ c) rank₁ via₁ t₁ rank₂ via₂ r → 65536 ≤ r → Touches g here s (event g first) rank via t rank₂ via₂ r
+  touch-stop R far = ((λ l. absurd (omega arith)), λ l. circuit-stop T R (λ d a q. q .0) (λ d a q. ap (event g) q ∙ T .stays))
+
 -- ---- the event placed at c, if one is
 
-pub visit-none : {g : Drawing} {here L : List ℕ} {c : ℕ} {rank via : List ℕ} {t : ℕ} → Held here rank via t → nth L (event g c) ≢ c → Visited g here L c rank via t rank via t
-visit-none H q = record { grown = grown-none _ H; seen = λ e. absurd (q e) }
+pub visit-none : {g : Drawing} {here : List ℕ} (L s : List ℕ) {c : ℕ} {rank via : List ℕ} {t : ℕ} → Held here rank via t → nth L (event g c) ≢ c → t < 65536 → Visits g here L s c rank via t rank via t
+visit-none L s H q few = ((λ l. record { grown = grown-none _ H; seen = λ e. absurd (q e) }), λ l. absurd (omega arith))
 
-pub visit-some : {g : Drawing} {here L : List ℕ} {c : ℕ} {rank via : List ℕ} {t : ℕ} {rank′ via′ : List ℕ} {t′ : ℕ} → nth L (event g c) ≡ c
-    → Touched g here (event g c) rank via t rank′ via′ t′ → Visited g here L c rank via t rank′ via′ t′
-visit-some e T = record { grown = grown-as (T .grown) (λ d l q. (q, e)); seen = λ q. T .seen }
+pub visit-some : {g : Drawing} {here : List ℕ} (L s : List ℕ) {c : ℕ} {rank via : List ℕ} {t : ℕ} {rank′ via′ : List ℕ} {r : ℕ} → nth L (event g c) ≡ c
+    → Touches g here s (event g c) rank via t rank′ via′ r → Visits g here L s c rank via t rank′ via′ r
+visit-some L s e T = ((λ l. record { grown = grown-as (T .0 l .grown) (λ d a q. ((q .0, e), q .1)); seen = λ q. T .0 l .seen }), λ l. reached-as (T .1 l) (λ d a q. (q, e)))
 
 -- ---- round a face
 
@@ -112,32 +123,41 @@ visit-some e T = record { grown = grown-as (T .grown) (λ d l q. (q, e)); seen =
 abbrev Shown : Drawing → List ℕ → List ℕ → List ℕ → ℕ → Type 0
 Shown g here L rank x = nth L (event g x) ≡ x → (d : ℕ) → d < darts g → event g d ≡ event g x → Seen rank (nth here d)
 
-abbrev pub Scanning : Drawing → List ℕ → List ℕ → ℕ → List ℕ → List ℕ → ℕ → List ℕ → List ℕ → ℕ → ℕ → ℕ → Type 0
-Scanning g here L first =
-    Circuit (darts g) (turn g) here (λ c. nth here c ≡ nth here first) (PlacedIn g here L (nth here first)) (Shown g here L) first
+abbrev pub Scanning : Drawing → List ℕ → List ℕ → List ℕ → ℕ → List ℕ → List ℕ → ℕ → List ℕ → List ℕ → ℕ → ℕ → ℕ → Type 0
+Scanning g here L s first =
+    Circuit (darts g) (turn g) here (λ c. nth here c ≡ nth here first) (λ d. PlacedIn g here L (nth here first) d × Full here s d) (Shown g here L) first
 
-pub scan-start : {g : Drawing} {here : List ℕ} (L : List ℕ) {first : ℕ} {rank via : List ℕ} {t : ℕ} → Board g here → first < darts g → Held here rank via t
-    → Scanning g here L first rank via t rank via t first 0
-scan-start L B l H = circuit-start l refl H
+pub scan-start : {g : Drawing} {here : List ℕ} (L s : List ℕ) {first : ℕ} {rank via : List ℕ} {t : ℕ} → Board g here → first < darts g → Held here rank via t
+    → Scanning g here L s first rank via t rank via t first 0
+scan-start L s B l H = circuit-start l refl H
 
-module _ {g : Drawing} {here : List ℕ} (L : List ℕ) (B : Board g here) {first : ℕ} {rank via : List ℕ} {t : ℕ} {rank₁ via₁ : List ℕ} {t₁ c k : ℕ}
-    (T : Scanning g here L first rank via t rank₁ via₁ t₁ c k) where
-  module _ {rank₂ via₂ : List ℕ} {t₂ : ℕ} (W : Visited g here L c rank₁ via₁ t₁ rank₂ via₂ t₂) where
-    placed : (d : ℕ) → d < length here → (event g d ≡ event g c) × (nth L (event g c) ≡ c) → PlacedIn g here L (nth here first) d
-    placed d a q = let e : nth L (event g d) ≡ c = ap (nth L) (q .0) ∙ q .1 in rw e (T .inside, T .stays)
+module _ {g : Drawing} {here : List ℕ} (L s : List ℕ) (B : Board g here) {first : ℕ} {rank via : List ℕ} {t : ℕ} {rank₁ via₁ : List ℕ} {t₁ c k : ℕ}
+    (T : Scanning g here L s first rank via t rank₁ via₁ t₁ c k) where
+  placed : (d : ℕ) → d < length here → PlacedAt g L c d → PlacedIn g here L (nth here first) d
+  placed d a q = let e : nth L (event g d) ≡ c = ap (nth L) (q .0) ∙ q .1 in rw e (T .inside, T .stays)
+
+  module _ {rank₂ via₂ : List ℕ} {t₂ : ℕ} (W : Visited g here L s c rank₁ via₁ t₁ rank₂ via₂ t₂) where
+    placed-full : (d : ℕ) → d < length here → PlacedAt g L c d × Full here s d → PlacedIn g here L (nth here first) d × Full here s d
+    placed-full d a q = (placed d a (q .0), q .1)
 
     shown : (x : ℕ) → Shown g here L rank₁ x → Shown g here L rank₂ x
     shown x s q d b m = seen-kept (W .grown) _ (s q d b m)
 
-    pub scan-step : turn g c ≢ first → Scanning g here L first rank via t rank₂ via₂ t₂ (turn g c) (k + 1)
-    scan-step q = circuit-step T (W .grown) placed shown (W .seen) (turn-into B) (turn-stays B c (T .inside) ∙ T .stays) q
+    pub scan-step : turn g c ≢ first → Scanning g here L s first rank via t rank₂ via₂ t₂ (turn g c) (k + 1)
+    scan-step q = circuit-step T (W .grown) placed-full shown (W .seen) (turn-into B) (turn-stays B c (T .inside) ∙ T .stays) q
 
-    pub scan-done : turn g c ≡ first → Scanned g here L first rank via t rank₂ via₂ t₂
-    scan-done q = record {
-      grown = circuit-grown T (W .grown) placed shown (W .seen);
+    scanned : turn g c ≡ first → Scanned g here L s first rank via t rank₂ via₂ t₂
+    scanned q = record {
+      grown = circuit-grown T (W .grown) placed-full shown (W .seen);
       seen = λ d b own p.
           let r = turn-meets B first (nth L (event g d)) (T .start) (p .0) (sym (p .1)) in
           let m = walk-all (turn g) first k c (T .walk) q (nth L (event g d)) r in
           let h : m .0 ≤ k = m .1 in
-          circuit-seen T (W .grown) placed shown (W .seen) (m .0) (omega arith) (rw (m .2) (ap (nth L) own)) d b (rw (m .2) (sym own));
+          circuit-seen T (W .grown) placed-full shown (W .seen) (m .0) (omega arith) (rw (m .2) (ap (nth L) own)) d b (rw (m .2) (sym own));
     }
+
+    pub scan-done : turn g c ≡ first → t₂ < 65536 → Scans g here L s first rank via t rank₂ via₂ t₂
+    scan-done q few = ((λ l. scanned q), λ l. absurd (omega arith))
+
+  pub scan-stop : {rank₂ via₂ : List ℕ} {r : ℕ} → Reached here s (PlacedAt g L c) rank₁ via₁ t₁ rank₂ via₂ r → 65536 ≤ r → Scans g here L s first rank via t rank₂ via₂ r
+  scan-stop R far = ((λ l. absurd (omega arith)), λ l. circuit-stop T R (λ d a q. q .0) placed)

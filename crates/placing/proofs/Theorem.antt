@@ -4,24 +4,27 @@
 --   not-both            never both
 -- The idea: place the sources and sinks one by one. A placement of all fills every face, since the rooms total them; one that has no place is in a
 -- crowd that is a cut.
-use mathlib.Core.Path.{_≡_, refl, _∙_}
+use mathlib.Core.Path.{_≡_, refl, ap, _∙_}
 use mathlib.Core.Logic.{_⊎_, inl, inr, ⊎-elim}
 use mathlib.Core.List.{List}
-use Prim.Native.Nat.{ℕ, zero, suc, _+_, _-_, _*_, _%_, _≤_, _<_}
+use Prim.Native.Nat.{ℕ, zero, suc, _+_, _-_, _*_, _/_, _%_, _≤_, _<_}
 use native.Mathlib.Decide.{ℕ-discrete}
 use native.Mathlib.Omega.{arith}
 use native.Mathlib.Numerals.{add-one}
 use lib.ListN.{length, take, set, length-set}
-use Rattle.finite.specs.Sums.{bit, sum, δ}
-use Rattle.finite.proofs.Sum.{sum-cong, sum-add, δ-eq, δ-other, δ-le}
-use Rattle.drawing.specs.Drawing.{Drawing, darts, event, face, faces, cornerFace, plain, room1, pole}
+use Rattle.finite.specs.Sums.{bit, sum, δ, class}
+use Rattle.drawing.specs.Drawing.{Drawing, darts, event, twin, face, faces, outerFace, cornerFace, plain, switch, switches, room1, pole}
 use Rattle.drawing.specs.Conditions.{EventsKnown, OuterKnown, Rings, Planar, NoneMixed, NoCircle, Drawable, Cut}
 use Rattle.finite.proofs.Extra.{bit-yes}
 use Rattle.finite.proofs.Filled.{table, table-length, table-at}
+use Rattle.drawing.proofs.Twins.{twin-into}
+use Rattle.drawing.proofs.Faces.{corner-twin, corner-face, corner-into}
 use Rattle.drawing.proofs.Total.{room1-total}
 use Rattle.drawing.proofs.Positive.{room1-some}
 use Rattle.drawing.proofs.Apart.{labelling-no-cut}
 use Rattle.words.specs.Tables.{nth}
+use Rattle.chart.specs.Held.{number}
+use Rattle.chart.proofs.Keys.{keyOf, key-δ, key-class, rooms-sum, numbered}
 use Rattle.placing.specs.Board.{Board, All, Crowd}
 use Rattle.placing.specs.Search.{Listing}
 use Rattle.placing.proofs.Pure.{placement-or-crowd}
@@ -41,47 +44,55 @@ listing S N bits (suc e) l =
 
 module _ (g : Drawing) (even : darts g % 2 ≡ 0) (rings : Rings g) (known : EventsKnown g) (outer : OuterKnown g) where
   here : List ℕ
-  here = table (darts g) (cornerFace g)
+  here = table (darts g) (λ c. number g (cornerFace g c))
 
   board : Board g here
   unfolding here
-  board = record { even = even; rings = rings; known = known; faced = record { size = table-length (darts g) (cornerFace g); each = table-at (darts g) (cornerFace g) } }
+  board = record {
+    even = even;
+    rings = rings;
+    known = known;
+    keyed = numbered even rings (table-length (darts g) (λ c. number g (cornerFace g c))) (table-at (darts g) (λ c. number g (cornerFace g c)));
+  }
+
+  -- the room of the face of key f, and one more
+  more : ℕ → ℕ
+  more f = class (darts g) (nth here) (switch g) f / 2 + 2 * δ (keyOf here (g .outer)) f
+
+  is-more : (c : ℕ) → c < darts g → more (nth here c) ≡ room1 g (cornerFace g c)
+  unfolding more room1 switches
+  is-more c l =
+      let o : δ (keyOf here (g .outer)) (nth here c) ≡ δ (outerFace g) (cornerFace g c) =
+      key-δ (board .keyed) (twin (g .outer)) c (twin-into (darts g) even (g .outer) outer) l ∙ ap (λ (x : ℕ). δ x (cornerFace g c)) (corner-twin g even rings (g .outer) outer) in
+      omega (arith, o, key-class (board .keyed) (switch g) c l)
 
   module _ (some : (f : ℕ) → f < darts g → face g f ≡ f → 1 ≤ room1 g f) (total : sum (darts g) (room1 g) ≡ sum (g .events) (λ v. bit (pole g v)) + faces g) where
-    -- the room of each face, and 0 at a dart that names none
     room : List ℕ
-    room = table (darts g) (λ f. room1 g f - δ (face g f) f)
+    room = table (faces g) (λ f. more f - 1)
 
-    one : (f : ℕ) → f < darts g → nth room f + δ (face g f) f ≡ room1 g f
+    at-corner : (c : ℕ) → c < darts g → nth room (nth here c) + 1 ≡ room1 g (cornerFace g c)
     unfolding room
-    one f l = elim (ℕ-discrete (face g f) f) [
-      | yes e ↦ omega (arith, table-at (darts g) (λ f. room1 g f - δ (face g f) f) f l, some f l e, δ-le (face g f) f)
-      | no d ↦ omega (arith, table-at (darts g) (λ f. room1 g f - δ (face g f) f) f l, δ-other (face g f) f d)
-    ]
-
-    at-face : (f : ℕ) → f < darts g → face g f ≡ f → nth room f + 1 ≡ room1 g f
-    at-face f l e = omega (arith, one f l, δ-eq (face g f) f e)
-
-    all-rooms : sum (darts g) (nth room) ≡ sum (g .events) (λ v. bit (pole g v))
-    unfolding faces
-    all-rooms =
+    at-corner c l =
         omega (
           arith,
-          sum-cong (darts g) (λ f. nth room f + δ (face g f) f) (room1 g) one,
-          sum-add (darts g) (nth room) (λ f. δ (face g f) f),
-          total,
+          table-at (faces g) (λ f. more f - 1) (nth here c) (board .keyed .inside c l),
+          is-more c l,
+          some (cornerFace g c) (corner-into g even rings c l) (corner-face g even rings c l),
         )
+
+    all-rooms : sum (faces g) (nth room) ≡ sum (g .events) (λ v. bit (pole g v))
+    all-rooms = omega (arith, rooms-sum even rings (board .keyed) outer (nth room) at-corner, total)
 
     pub labelling-or-cut : Drawable g ⊎ ((l : List ℕ) × Cut g l)
     unfolding room
     labelling-or-cut = ⊎-elim
         (λ (x : (L : List ℕ) × All g here (λ v. bit (pole g v)) (nth room) L).
         let label : ℕ → ℕ = λ c. 2 * δ (nth (x .0) (event g c)) c + plain g c in
-        inl (table (darts g) label, is-labelling board (x .1) (λ v l. refl) outer at-face all-rooms (table (darts g) label) (table-length (darts g) label) (table-at (darts g) label)))
-        (λ (x : (S : ℕ → ℕ) × Crowd g (nth room) S × ((v : ℕ) → v < g .events → S v ≤ 1) × ((v : ℕ) → v < g .events → 1 ≤ S v → bit (pole g v) ≡ 1)).
+        inl (table (darts g) label, is-labelling board (x .1) (λ v l. refl) outer at-corner all-rooms (table (darts g) label) (table-length (darts g) label) (table-at (darts g) label)))
+        (λ (x : (S : ℕ → ℕ) × Crowd g here (nth room) S × ((v : ℕ) → v < g .events → S v ≤ 1) × ((v : ℕ) → v < g .events → 1 ≤ S v → bit (pole g v) ≡ 1)).
         let r = listing (x .0) (g .events) (x .2) (g .events) (omega arith) in
-        inr (take (r .1) (r .0), is-cut (x .1) (r .4) (omega (arith, r .2, r .3)) at-face (λ v l m. bit-yes (pole g v) .1 (x .3 v l m))))
-        (placement-or-crowd (λ v. bit (pole g v)) board room (table-length (darts g) (λ f. room1 g f - δ (face g f) f)))
+        inr (take (r .1) (r .0), is-cut board (x .1) (r .4) (omega (arith, r .2, r .3)) at-corner (λ v l m. bit-yes (pole g v) .1 (x .3 v l m))))
+        (placement-or-crowd (λ v. bit (pole g v)) board room (table-length (faces g) (λ f. more f - 1)))
 
   pub yes-or-no : Planar g → NoneMixed g → NoCircle g → Drawable g ⊎ ((l : List ℕ) × Cut g l)
   yes-or-no planar mixed circle = labelling-or-cut (room1-some g even rings circle) (room1-total g even rings known outer planar mixed)

@@ -14,11 +14,11 @@ use Rattle.finite.specs.Sums.{sum}
 use Rattle.finite.specs.Lists.{All, Ascending}
 use Rattle.finite.proofs.Sum.{δ-eq, δ-other}
 use Rattle.finite.proofs.Filled.{past}
-use Rattle.drawing.specs.Drawing.{Drawing, darts, face, room1, pole}
+use Rattle.drawing.specs.Drawing.{Drawing, darts, cornerFace, room1, pole}
 use Rattle.drawing.specs.Conditions.{Cut}
-use Rattle.drawing.proofs.Cuts.{cut-of}
 use Rattle.words.specs.Tables.{nth}
-use Rattle.placing.specs.Board.{Crowd}
+use Rattle.chart.proofs.Keys.{keyed-cut}
+use Rattle.placing.specs.Board.{Board, Crowd}
 use Rattle.placing.specs.Search.{member, Listing}
 use Rattle.placing.proofs.Boards.{face-of, face-none}
 
@@ -65,7 +65,7 @@ stored f l c x h e all k b = elim (ℕ-discrete k c) [
 
 -- ---- who is in the crowd
 
-module _ (here L rank : List ℕ) (u v : ℕ) (ranks : length rank ≡ length here) where
+module _ (here L rank : List ℕ) (u v : ℕ) (ranks : length rank ≤ length here) where
   pub member-self : u ≡ v → member here L rank u v ≡ 1
   member-self e = omega (arith, δ-eq u v e)
 
@@ -88,12 +88,12 @@ ascending-take [] (suc k) h p = tt
 ascending-take (x ∷ l) (suc k) h p =
     (all-take (λ y. x < y) l k (le-of-suc-le-suc h) (λ i a. p 0 (suc i) (omega arith) (omega arith)), ascending-take l k (le-of-suc-le-suc h) (λ i j a b. p (suc i) (suc j) (omega arith) (omega arith)))
 
-pub is-cut : {g : Drawing} {room S : ℕ → ℕ} {list : List ℕ} {k : ℕ} → Crowd g room S → Listing (g .events) S list k → k ≤ length list
-    → ((f : ℕ) → f < darts g → face g f ≡ f → room f + 1 ≡ room1 g f)
+pub is-cut : {g : Drawing} {here : List ℕ} {room S : ℕ → ℕ} {list : List ℕ} {k : ℕ} → Board g here → Crowd g here room S → Listing (g .events) S list k → k ≤ length list
+    → ((c : ℕ) → c < darts g → room (nth here c) + 1 ≡ room1 g (cornerFace g c))
     → ((v : ℕ) → v < g .events → 1 ≤ S v → T (pole g v))
     → Cut g (take k list)
-is-cut {g} {room} {S} {list} {k} C L h rooms poles =
-    cut-of g S (C .t) room (take k list) (C .touch) rooms (C .over)
+is-cut {g} {here} {room} {S} {list} {k} B C L h rooms poles =
+    keyed-cut (B .even) (B .rings) (B .keyed) S (C .t) room (take k list) (C .touch) rooms (C .over)
     (ascending-take list k h (L .rising))
     (all-take (λ v. (v < g .events) × T (pole g v)) list k h (λ i a. (L .each i a .0, poles (nth list i) (L .each i a .0) (omega (arith, L .each i a .1)))))
     (omega (arith, length-take k list, L .count))

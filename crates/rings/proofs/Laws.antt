@@ -19,7 +19,7 @@ use Rattle.finite.proofs.Walk.{Walk, walk-step}
 use Rattle.drawing.specs.Drawing.{Drawing, darts, event, after}
 use Rattle.drawing.specs.Conditions.{EventsKnown, Rings}
 use Rattle.drawing.proofs.Rounds.{Keeps, Kept}
-use Rattle.drawing.proofs.Counted.{Level, Counted, counted-skip, counted-ring, refuse-open, rings-counted}
+use Rattle.drawing.proofs.Counted.{Level, Tally, tally-skip, tally-ring, refuse-open, rings-counted}
 use Rattle.rules.specs.Chart.{drawing}
 use Rattle.words.specs.Tables.{nth}
 use Rattle.chart.specs.Shape.{Shape}
@@ -94,14 +94,14 @@ module _ (g : Drawing) (d k c : ℕ) (W : Walk (after g) d k c) where
 -- ---- events in turn: d is picked for the event v, and at the events below it met darts were met
 
 module _ (s : List ℕ) (n : ℕ) (S : Shape s n) (K : Kept (drawing s)) (E : EventsKnown (drawing s)) (first : List ℕ) (P : Picked (drawing s) first) where
-  module _ (v met : ℕ) (l : v < length first) (m : met ≤ n) (I : Counted (drawing s) v met) (d : ℕ) (q : d ≡ nth first v) where
+  module _ (v met : ℕ) (l : v < length first) (m : met ≤ n) (I : Tally (drawing s) (λ i. i) v met) (d : ℕ) (q : d ≡ nth first v) where
     abbrev g : Drawing
     g = drawing s
 
     -- no dart: nothing to follow
     pub pick-none : n ≤ d → Passed g (v + 1) met
     pick-none h = record {
-      counted = λ a. counted-skip g v met I (λ e k r. omega (arith, S .darts, P .each e k, ap (nth first) r));
+      counted = λ a. tally-skip g (λ i. i) v met I (λ e k r. omega (arith, S .darts, P .each e k, ap (nth first) r));
       refused = λ a. absurd (omega (arith, S .darts));
     }
 
@@ -116,18 +116,18 @@ module _ (s : List ℕ) (n : ℕ) (S : Shape s n) (K : Kept (drawing s)) (E : Ev
       pub pick-open : r < 1 → Passed g (v + 1) (n + 1)
       pick-open z = record {
         counted = λ a. absurd (omega (arith, S .darts));
-        refused = λ a. refuse-open g v met I K d inside there E (n - met) (omega (arith, S .darts)) (W .none z);
+        refused = λ a. refuse-open g (λ i. i) v met I K d inside there E (λ i h. omega (arith, E d inside, there), λ i j a b q. q) (n - met) (omega (arith, S .darts)) (W .none z);
       }
 
       pub pick-ring : 0 < r → Passed g (v + 1) (met + r)
       pick-ring z = record {
-        counted = λ a. counted-ring g v met I K d inside there r (W .ring z);
+        counted = λ a. tally-ring g (λ i. i) v met I K d inside there r (W .ring z);
         refused = λ a. absurd (omega (arith, S .darts, W .within));
       }
 
 -- the rings of all events are followed
 pub all-counted : (s : List ℕ) (n : ℕ) → Shape s n → Kept (drawing s) → EventsKnown (drawing s)
-    → (v met : ℕ) → v ≡ drawing s .events → Counted (drawing s) v met → Says (eqb met n) (Rings (drawing s))
+    → (v met : ℕ) → v ≡ drawing s .events → Tally (drawing s) (λ i. i) v met → Says (eqb met n) (Rings (drawing s))
 all-counted s n S K E v met q I =
     let exactly = rings-counted (drawing s) K E met (rw q at I) in
     says-as (eqb met n) (λ e. exactly .0 (e ∙ S .darts)) (λ R. exactly .1 R ∙ sym (S .darts)) (says-equal met n)

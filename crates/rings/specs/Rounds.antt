@@ -6,7 +6,7 @@ use Prim.Native.Nat.{ℕ, _<_, _≤_}
 use Rattle.finite.specs.Steps.{iter}
 use Rattle.drawing.specs.Drawing.{Drawing, darts, after}
 use Rattle.drawing.specs.Conditions.{Rings}
-use Rattle.drawing.proofs.Counted.{Circled, Counted}
+use Rattle.drawing.proofs.Counted.{Circled, Tally}
 
 pub record Returned (g : Drawing) (d left r : ℕ) : Type 0 where
   pub within : r ≤ left
@@ -14,5 +14,5 @@ pub record Returned (g : Drawing) (d left r : ℕ) : Type 0 where
   pub none : r < 1 → (j : ℕ) → 0 < j → j ≤ left → iter (after g) j d ≢ d
 
 pub record Passed (g : Drawing) (v r : ℕ) : Type 0 where
-  pub counted : r ≤ darts g → Counted g v r
+  pub counted : r ≤ darts g → Tally g (λ i. i) v r
   pub refused : darts g < r → Rings g → ⊥

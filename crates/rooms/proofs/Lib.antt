@@ -1,4 +1,3 @@
-pub mod Counting
 pub mod Halving
 pub mod Rooms
 pub mod Flagging

@@ -2,28 +2,16 @@
 ghost use mathlib.Core.Path.{_≡_};
 ghost use Prim.Native.Nat.{ℕ, _+_, _-_, _*_, _/_, _%_, _<_, _≤_};
 ghost use lib.ListN.{length, set};
-ghost use Rattle.drawing.specs.Drawing.{darts, enters, leaves, twin as otherDart, face, cornerFace, room1};
+ghost use Rattle.drawing.specs.Drawing.{darts, enters, leaves, face, faces, room1};
 ghost use Rattle.drawing.specs.Conditions.{EventsKnown, OuterKnown, Rings};
 ghost use Rattle.rules.specs.Chart.{drawing};
 ghost use Rattle.words.specs.Tables.{nth};
 ghost use Rattle.chart.specs.Shape.{Shape};
-ghost use Rattle.chart.specs.Held.{Faced, Roomed, Poled};
-ghost use Rattle.rooms.specs.Counts.{Corners, Corner, Switched, Named, Halved};
+ghost use Rattle.chart.specs.Held.{Keyed, Switched, Roomed, Poled};
+ghost use Rattle.rooms.specs.Counts.{Halved};
 ghost use Rattle.rooms.specs.Flags.{flags, Pole, Flagged, Decided};
 
 // ---- rooms
-
-// 1 if the corner between a dart c and its successor s is a switch, else 0.
-fn switch_of(c: usize, s: usize) -> usize
-    requires { ⌜ (c < 65536) × (s < 65536) ⌝ }
-    ensures { λ r. ⌜ r ≡ (c % 2 + s % 2 + 1) % 2 ⌝ }
-{
-    // a dead end: the two are one dart
-    if c == s {
-        return 1;
-    }
-    (c + s + 1) % 2
-}
 
 // Adds x to entry i of the table t.
 fn add(t: &mut [u16], i: usize, x: usize)
@@ -34,76 +22,35 @@ fn add(t: &mut [u16], i: usize, x: usize)
     words::put(t, i, y + x);
 }
 
-// The face of the corner c. Switches are counted by corner: an event may have several corners in one face.
-fn face_at(chart: &[u8], n: usize, here: &[u16], c: usize) -> usize
-    requires { ⌜ Corner (now chart) n (now here) c ⌝ }
-    ensures { λ r. ⌜ r ≡ cornerFace (drawing (now (chart .entry))) c ⌝ }
+// Half of x, less one.
+fn halved(x: usize) -> usize
+    requires { ⌜ 2 ≤ x ⌝ }
+    ensures { λ r. ⌜ r ≡ x / 2 - 1 ⌝ }
 {
-    words::get(here, c)
+    x / 2 - 1
 }
 
-// Counts the corner c for its face, if it is a switch.
-fn count_corner(chart: &[u8], n: usize, here: &[u16], spare: &mut [u16], c: usize)
-    requires { ⌜ Corners (now chart) n (now here) × (c < n) × Switched (drawing (now chart)) c (now spare) ⌝ }
-    ensures { λ _. ⌜ Switched (drawing (now (chart .entry))) (c + 1) (now (spare .exit)) ⌝ }
-{
-    let s = chart::next_of(chart, n, c);
-    let f = face_at(chart, n, here, c);
-    add(spare, f, switch_of(c, s));
-}
-
-// Fills `spare` with the number of switch corners of each face.
-fn count_corners(chart: &[u8], n: usize, here: &[u16], spare: &mut [u16])
-    requires { ⌜ Corners (now chart) n (now here) × (length (now spare) ≡ n) ⌝ }
-    ensures { λ _. ⌜ Switched (drawing (now (chart .entry))) n (now (spare .exit)) ⌝ }
-{
-    words::fill(spare, 0);
-    let mut c = 0;
-    while c < n {
-        count_corner(chart, n, here, spare, c);
-        c += 1;
-    }
-}
-
-// Half of x, less one, for the name of a face; x for any other dart.
-fn halved(face: usize, f: usize, x: usize) -> usize
-    requires { ⌜ (face ≡ f → 2 ≤ x) ⌝ }
-    ensures { λ r. ⌜ (face ≡ f → r ≡ x / 2 - 1) × (¬ (face ≡ f) → r ≡ x) × (r ≤ x) ⌝ }
-{
-    if face == f { x / 2 - 1 } else { x }
-}
-
-// Halves entry f of `spare`, less one, if f names a face. Every entry is stored, so that nothing branches on the names.
-fn halve_one(here: &[u16], spare: &mut [u16], f: usize)
-    requires { ⌜ (f < length (now spare)) × (f < 6144) × (otherDart f < length (now here)) × (Named (now here) f → 2 ≤ nth (now spare) f) ⌝ }
-    ensures { λ _. ⌜ (Named (now (here .entry)) f → now (spare .exit) ≡ set (now (spare .entry)) f (nth (now (spare .entry)) f / 2 - 1)) × (¬ Named (now (here .entry)) f → now (spare .exit) ≡ now (spare .entry)) ⌝ }
-{
-    let face = words::get(here, words::twin(f));
-    let x = words::get(spare, f);
-    words::put(spare, f, halved(face, f, x));
-}
-
-// Halves the entries of `spare` that name a face, less one.
-fn halve(n: usize, here: &[u16], spare: &mut [u16])
-    requires { ⌜ (n % 2 ≡ 0) × (n ≤ 6144) × (length (now here) ≡ n) × (length (now spare) ≡ n) × ((f : ℕ) → f < n → Named (now here) f → 2 ≤ nth (now spare) f) ⌝ }
-    ensures { λ _. ⌜ Halved (now (here .entry)) n (now (spare .entry)) (now (spare .exit)) ⌝ }
+// Halves the entries of `spare`, less one.
+fn halve(spare: &mut [u16])
+    requires { ⌜ ((f : ℕ) → f < length (now spare) → 2 ≤ nth (now spare) f) ⌝ }
+    ensures { λ _. ⌜ Halved (length (now (spare .entry))) (now (spare .entry)) (now (spare .exit)) ⌝ }
 {
     let mut f = 0;
-    while f < n {
-        halve_one(here, spare, f);
+    while f < spare.len() {
+        let x = halved(words::get(spare, f));
+        words::put(spare, f, x);
         f += 1;
     }
 }
 
-// Fills `spare` with the room of each face. The outer face has two more than an inner one, which are four switch corners.
+// Makes rooms of the numbers of switch corners in `spare`. The outer face has two more than an inner one, which are four switch corners.
 pub fn room_table(chart: &[u8], n: usize, here: &[u16], outer: usize, spare: &mut [u16])
-    requires { ⌜ Shape (now chart) n × Rings (drawing (now chart)) × OuterKnown (drawing (now chart)) × Faced (drawing (now chart)) (now here) × (outer ≡ drawing (now chart) .outer) × (length (now spare) ≡ n) × ((f : ℕ) → f < darts (drawing (now chart)) → face (drawing (now chart)) f ≡ f → 1 ≤ room1 (drawing (now chart)) f) ⌝ }
-    ensures { λ _. ⌜ Roomed (drawing (now (chart .entry))) (now (spare .exit)) ⌝ }
+    requires { ⌜ Shape (now chart) n × Rings (drawing (now chart)) × OuterKnown (drawing (now chart)) × Keyed (drawing (now chart)) (now here) × (outer ≡ drawing (now chart) .outer) × (length (now spare) ≡ faces (drawing (now chart))) × Switched (drawing (now chart)) (now here) (now spare) × ((f : ℕ) → f < darts (drawing (now chart)) → face (drawing (now chart)) f ≡ f → 1 ≤ room1 (drawing (now chart)) f) ⌝ }
+    ensures { λ _. ⌜ Roomed (drawing (now (chart .entry))) (now (here .entry)) (now (spare .exit)) ⌝ }
 {
-    count_corners(chart, n, here, spare);
     let f = words::get(here, words::twin(outer));
     add(spare, f, 4);
-    halve(n, here, spare);
+    halve(spare);
 }
 
 // ---- sources and sinks

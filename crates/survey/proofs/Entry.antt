@@ -26,6 +26,3 @@ module _ (s : List ℕ) (r : ℕ) (e : r < 1) (g : Given formTests s 0 r) where
   form-formed n v p q =
       let F = given-formed s form-none in
       record { shape = formed-shape s n F p; known = F .known; own = F .own; outer = F .outer; events = q }
-
-  pub form-few : (n v : ℕ) → n ≡ 2 * arrowsIn s → v ≡ drawing s .events → (n ≤ 6144) × (v ≤ 1024)
-  form-few n v p q = let F = form-formed n v p q in (F .shape .few, omega (arith, F .shape .events, q))

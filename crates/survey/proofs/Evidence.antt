@@ -9,14 +9,14 @@ use lib.Dec.{ltb}
 use lib.ListN.{length, take, set}
 use lib.Seq.{take-suc-set}
 use Rattle.finite.proofs.Lists.{below-none}
-use Rattle.drawing.specs.Drawing.{Drawing, darts, changes, mixed, mixedEvents}
-use Rattle.drawing.specs.Conditions.{NoneMixed, Joined}
-use Rattle.drawing.proofs.Joins.{joined-dart}
+use Rattle.drawing.specs.Drawing.{Drawing, event, changes, mixed, mixedEvents}
+use Rattle.drawing.specs.Conditions.{EventsKnown, NoneMixed, Joined}
 use Rattle.rules.specs.Chart.{drawing}
 use Rattle.rules.proofs.Bytes.{darts-even}
-use Rattle.words.specs.Tables.{nth}
 use Rattle.chart.specs.Shape.{Shape}
-use Rattle.chart.specs.Held.{Picked, Firsts}
+use Rattle.chart.specs.Held.{Firsts}
+use Rattle.rings.specs.Joining.{Marked, Met}
+use Rattle.rings.proofs.Near.{joined-from}
 
 -- a mixed event is listed only if there is one
 pub some-mixed : (g : Drawing) (m : ℕ) → take 1 (mixedEvents g) ≡ m ∷ [] → ¬ NoneMixed g
@@ -33,11 +33,11 @@ some-mixed g m e none =
 pub first-set : (l : List ℕ) (m : ℕ) → 0 < length l → take 1 (set l 0 m) ≡ m ∷ []
 first-set l m h = take-suc-set l 0 m h
 
--- where the arrows join all events each has a dart, and so one is picked
-pub firsts : (s : List ℕ) (n : ℕ) → Shape s n → Joined (drawing s) → (first : List ℕ) → Picked (drawing s) first → Firsts (drawing s) first
-firsts s n S joined first P = record { size = P .size; inside = inside; each = λ v l. P .own v l (inside v l) }
+-- where the arrows join all events each is joined with dart 0's, and so has a dart
+pub firsts : (s : List ℕ) (n : ℕ) → Shape s n → EventsKnown (drawing s) → Joined (drawing s) → (first : List ℕ) → Met (drawing s) first → Firsts (drawing s) first
+firsts s n S E joined first M = record { size = M .size; inside = λ v l. M .own v l (marked v l) .0; each = λ v l. M .own v l (marked v l) .1 }
   where
-    inside : (v : ℕ) → v < drawing s .events → nth first v < darts (drawing s)
-    inside v l =
-        let t = joined-dart (drawing s) (darts-even s) joined (S .events .0) v l in
-        rw (t .2) at (P .each (t .0) (t .1))
+    marked : (v : ℕ) → v < drawing s .events → Marked first v
+    marked v l =
+        let known : event (drawing s) 0 < drawing s .events = E 0 (omega (arith, S .darts, S .some)) in
+        M .each v l (joined-from (drawing s) (darts-even s) (event (drawing s) 0) known joined v l)

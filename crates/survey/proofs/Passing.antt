@@ -1,10 +1,11 @@
 -- What a chart past the tests has passed. Assumes nothing.
 use mathlib.Core.Path.{_≡_, subst}
+use mathlib.Core.Logic.{_≢_}
 use mathlib.Core.List.{List, [], _∷_}
 use Prim.Native.Nat.{ℕ, _≤_}
 use Rattle.rules.specs.Tests.{order, parted, crossing, mixing, circle, Given}
 use Rattle.rules.proofs.Chain.{given-first, given-highest}
-use Rattle.survey.specs.Past.{ringTests, surveyTests, Formed, Past, Clear}
+use Rattle.survey.specs.Past.{ringTests, surveyTests, Formed, Past, Clear, Ringed}
 
 -- tests 9 to 11 give no number above 11
 pub ring-small : (s : List ℕ) (r : ℕ) → Given ringTests s 0 r → r ≤ 11
@@ -28,3 +29,8 @@ survey-clear s n v F g =
     let d = given-first mixing (circle ∷ []) s 0 (c .1) in
     let e = given-first circle [] s 0 (d .1) in
     record { formed = F; past = record { rings = a .0; joined = b .0; planar = c .0 }; unmixed = d .0; free = e .0 }
+
+-- a fault of tests 9 to 11 leaves nothing
+pub none : (s here spare first : List ℕ) (r : ℕ) → r ≢ 0 → Given ringTests s 0 r → Ringed s here spare first r
+none s here spare first r some g =
+    record { given = g; firsts = λ e. absurd (some e); keyed = λ e. absurd (some e); switched = λ e. absurd (some e) }

@@ -1,19 +1,20 @@
 -- The tests 9 to 13, and what they leave. Assumes nothing.
 --   ringTests, climbTests        tests 9 to 11, and tests 12 and 13
 --   Formed s n v                 the chart s, of n darts and v events, is past test 8
+--   Unused n v here first list   here and first have 65535 for each of n corners and of v events, and list an entry for each event
 --   Past s                       the chart s is past test 11
 --   Clear s n v                  the chart s is past test 13
---   Surveyed s here first list r c   what the survey of tests 9 to 13 leaves: the fault r or 0, and its evidence, the first c entries of list
+--   Surveyed s here spare first list r c   what the survey of tests 9 to 13 leaves: the fault r or 0, and its evidence, the first c entries of list
 use mathlib.Core.Path.{_≡_}
 use mathlib.Core.List.{List, [], _∷_}
 use Prim.Native.Nat.{ℕ, _≤_}
-use lib.ListN.{length, take}
+use lib.ListN.{length, take, replicate}
 use Rattle.drawing.specs.Conditions.{EventsKnown, NoOwnArrow, OuterKnown, Rings, Joined, Planar, NoneMixed, NoCircle}
 use Rattle.rules.specs.Chart.{drawing}
 use Rattle.rules.specs.Tests.{Test, order, parted, crossing, mixing, circle, Given}
 use Rattle.rules.specs.Report.{Entries}
 use Rattle.chart.specs.Shape.{Shape}
-use Rattle.chart.specs.Held.{Faced, Firsts}
+use Rattle.chart.specs.Held.{Keyed, Switched, Firsts}
 
 abbrev pub ringTests : List Test
 ringTests = order ∷ parted ∷ crossing ∷ []
@@ -31,6 +32,12 @@ pub record Formed (s : List ℕ) (n v : ℕ) : Type 0 where
   pub outer : OuterKnown (drawing s)
   pub events : v ≡ drawing s .events
 
+-- the tables as the survey wants them lent
+pub record Unused (n v : ℕ) (here first list : List ℕ) : Type 0 where
+  pub corners : here ≡ replicate n 65535
+  pub events : first ≡ replicate v 65535
+  pub room : length list ≡ v
+
 pub record Past (s : List ℕ) : Type 0 where
   pub rings : Rings (drawing s)
   pub joined : Joined (drawing s)
@@ -44,18 +51,20 @@ pub record Clear (s : List ℕ) (n v : ℕ) : Type 0 where
   pub free : NoCircle (drawing s)
 
 -- tests 9 to 11
-pub record Ringed (s here : List ℕ) (r : ℕ) : Type 0 where
+pub record Ringed (s here spare first : List ℕ) (r : ℕ) : Type 0 where
   pub given : Given ringTests s 0 r
-  pub faced : r ≡ 0 → Faced (drawing s) here
+  pub firsts : r ≡ 0 → Firsts (drawing s) first
+  pub keyed : r ≡ 0 → Keyed (drawing s) here
+  pub switched : r ≡ 0 → Switched (drawing s) here spare
 
 -- tests 12 and 13
-pub record Climbed (s first list : List ℕ) (r c : ℕ) : Type 0 where
+pub record Climbed (s list : List ℕ) (r c : ℕ) : Type 0 where
   pub given : Given climbTests s 0 r
-  pub firsts : Firsts (drawing s) first
   pub evidence : 12 ≤ r → (c ≤ length list) × Entries (drawing s) r (take c list)
 
-pub record Surveyed (s here first list : List ℕ) (r c : ℕ) : Type 0 where
+pub record Surveyed (s here spare first list : List ℕ) (r c : ℕ) : Type 0 where
   pub given : Given surveyTests s 0 r
-  pub faced : r ≡ 0 → Faced (drawing s) here
+  pub keyed : r ≡ 0 → Keyed (drawing s) here
+  pub switched : r ≡ 0 → Switched (drawing s) here spare
   pub firsts : r ≡ 0 → Firsts (drawing s) first
   pub evidence : 12 ≤ r → (c ≤ length list) × Entries (drawing s) r (take c list)

@@ -28,9 +28,8 @@ find-places-requires c κs = search needs
 
 put-list-requires : tie.Need-put-list-requires
 put-list-requires c κs =
-    let p = c .before .before .before .before .before .before .before .before .before .before .before .before .before .before .before .before .before .before .before .pre in
-    let f = c .before .before .before .before .before .before .before .before .before .find-places in
-    let r = f .ensures .no (c .before .before .if1 .taken) in
+    let p = c .before .before .before .before .before .before .before .before .before .before .before .before .before .before .before .before .before .before .before .before .before .before .before .pre in
+    let r = c .before .before .before .before .before .before .before .before .before .before .before .find-places .ensures .no (c .before .before .if1 .taken) in
     let size = p .0 .1 .poled .size in
     let events = p .0 .0 .events .1 in
     record {
@@ -50,22 +49,24 @@ same-length-2 c = search needs
 same-length-3 : tie.Need-same-length-3
 same-length-3 c = search needs
 
+same-length-4 : tie.Need-same-length-4
+same-length-4 c = search needs
+
 returns : tie.Need-returns
 returns c =
-    let p = c .before .before .before .before .before .before .before .before .before .before .before .before .before .before .before .before .before .before .before .before .before .before .pre in
-    let f = c .before .before .before .before .before .before .before .before .before .before .before .before .find-places in
+    let e = c .before .before .before .before .before .before .before .before .before .before .before .before .before .before .before .before .before .before .before .before .before .before .before .before .before .before in
+    let p = e .pre in
+    let f = c .before .before .before .before .before .before .before .before .before .before .before .before .before .before .find-places in
     let r = f .ensures .no (c .before .before .before .before .before .if1 .taken) in
-    let even : darts (drawing (c .before .before .before .before .before .before .before .before .before .before .before .before .before .before .before .before .before .before .before .before .before .before .args .chart .now)) % 2 ≡ 0 = omega (arith, p .0 .0 .darts, p .0 .0 .even) in
-    cut-run _ _ _ _ _ _ even (p .0 .1 .rings) (left-whole (c .before .before .before .before .before .before .before .before .before .before .before .before .before .before .before .before .before .before .before .before .before .before .args .report .now) (f .last .1 .1 .1 .1 .1 .0) (8 + c .before .before .before .before .before .before .before .before .before .before .before .before .before .before .before .before .before .before .before .before .before .before .args .n - 8) (r .2)) (r .1) (c .before .before .put-list .ensures)
+    let even : darts (drawing (e .args .chart .now)) % 2 ≡ 0 = omega (arith, p .0 .0 .darts, p .0 .0 .even) in
+    let whole = left-whole (e .args .report .now) (f .last .1 .1 .1 .1 .1 .1 .0) (8 + e .args .n - 8) (r .2) in
+    cut-run _ _ _ _ _ _ even (p .0 .1 .rings) whole (r .1) (c .before .before .put-list .ensures)
 
 put-header-requires : tie.Need-put-header-requires
 put-header-requires c κs = search needs
 
-add-t12 : tie.Need-add-t12
-add-t12 c = search needs
-
-same-length-4 : tie.Need-same-length-4
-same-length-4 c = search needs
+add-t15 : tie.Need-add-t15
+add-t15 c = search needs
 
 same-length-5 : tie.Need-same-length-5
 same-length-5 c = search needs
@@ -73,13 +74,22 @@ same-length-5 c = search needs
 same-length-6 : tie.Need-same-length-6
 same-length-6 c = search needs
 
+same-length-7 : tie.Need-same-length-7
+same-length-7 c = search needs
+
+same-length-8 : tie.Need-same-length-8
+same-length-8 c = search needs
+
 returns-2 : tie.Need-returns-2
 returns-2 c =
-    let p = c .before .before .before .before .before .before .before .before .before .before .before .before .before .before .before .before .before .before .before .before .before .pre in
-    let f = c .before .before .before .before .before .before .before .before .before .before .before .find-places in
-    let n = c .before .before .before .before .before .before .before .before .before .before .before .before .before .before .before .before .before .before .before .before .before .args .n in
-    let room : 8 + n ≤ length (c .before .before .before .before .before .before .before .before .before .before .before .before .before .before .before .before .before .before .before .before .before .args .report .now) = omega (arith, p .0 .0 .few, p .1) in
-    labels-run _ (c .before .before .before .before .before .before .before .before .before .before .before .before .before .before .before .before .before .before .before .before .before .args .report .now) (f .last .1 .1 .1 .1 .1 .0) n _ room (f .kept .1 .1 .1 .1 .1 .0 ∙ part-length (c .before .before .before .before .before .before .before .before .before .before .before .before .before .before .before .before .before .before .before .before .before .args .report .now) n room) (f .ensures .yes (omega (arith, c .before .before .before .before .if1 .left))) (c .before .before .put-header .ensures)
+    let e = c .before .before .before .before .before .before .before .before .before .before .before .before .before .before .before .before .before .before .before .before .before .before .before .before .before in
+    let p = e .pre in
+    let f = c .before .before .before .before .before .before .before .before .before .before .before .before .before .find-places in
+    let n = e .args .n in
+    let room : 8 + n ≤ length (e .args .report .now) = omega (arith, p .0 .0 .few, p .1) in
+    let size = f .kept .1 .1 .1 .1 .1 .1 .0 ∙ part-length (e .args .report .now) n room in
+    let labels = f .ensures .yes (omega (arith, c .before .before .before .before .if1 .left)) in
+    labels-run _ (e .args .report .now) (f .last .1 .1 .1 .1 .1 .1 .0) n _ room size labels (c .before .before .put-header .ensures)
 
 pub write-places-spec : {M : Type 1} → statement M
 write-places-spec =
@@ -94,10 +104,12 @@ write-places-spec =
     same-length
     same-length-2
     same-length-3
+    same-length-4
     returns
     put-header-requires
-    add-t12
-    same-length-4
+    add-t15
     same-length-5
     same-length-6
+    same-length-7
+    same-length-8
     returns-2)

@@ -24,34 +24,47 @@ same-length-2 c = search needs
 same-length-3 : tie.Need-same-length-3
 same-length-3 c = search needs
 
-returns : tie.Need-returns
-returns c =
-    let p = c .before .before .before .before .before .before .before .before .before .before .before .before .before .before .before .before .pre in
-    let some : c .before .before .before .before .before .before .before .survey-all .result .fault ≢ 0 = λ e. omega (arith, c .if1 .taken) in
-    refused-drawn _ _ _ some (p .0 .1) (c .before .before .before .before .before .before .before .survey-all .ensures .given)
-
-weigh-requires : tie.Need-weigh-requires
-weigh-requires c κs =
-    let p = c .before .before .before .before .before .before .before .before .before .before .before .before .before .before .before .before .before .pre in
-    let S = c .before .before .before .before .before .before .before .before .survey-all .ensures in
-    let z : c .before .before .before .before .before .before .before .before .survey-all .result .fault ≡ 0 = omega (arith, c .before .if1 .left) in
-    (survey-clear _ _ _ (p .0 .0) (subst (Given surveyTests _ 0) z (S .given)), S .faced z)
-
 same-length-4 : tie.Need-same-length-4
 same-length-4 c = search needs
 
 same-length-5 : tie.Need-same-length-5
 same-length-5 c = search needs
 
+returns : tie.Need-returns
+returns c =
+    let S = c .before .before .before .before .before .before .before .before .before .before .before .survey-all in
+    let some : S .result .fault ≢ 0 = λ e. omega (arith, c .if1 .taken) in
+    refused-drawn _ _ _ some (c .before .before .before .before .before .before .before .before .before .before .before .before .before .before .before .before .before .before .before .before .before .before .before .before .pre .0 .1) (S .ensures .given)
+
+weigh-requires : tie.Need-weigh-requires
+weigh-requires c κs =
+    let p = c .before .before .before .before .before .before .before .before .before .before .before .before .before .before .before .before .before .before .before .before .before .before .before .before .before .before .pre in
+    let S = c .before .before .before .before .before .before .before .before .before .before .before .before .before .survey-all in
+    let z : S .result .fault ≡ 0 = omega (arith, c .before .before .if1 .left) in
+    let clear = survey-clear _ _ _ (p .0 .0) (subst (Given surveyTests _ 0) z (S .ensures .given)) in
+    (clear, S .ensures .keyed z, omega (arith, c .before .before .before .before .before .before .before .before .before .before .spare .given, p .1 .1 .1), S .ensures .switched z)
+
 same-length-6 : tie.Need-same-length-6
 same-length-6 c = search needs
 
+same-length-7 : tie.Need-same-length-7
+same-length-7 c = search needs
+
+same-length-8 : tie.Need-same-length-8
+same-length-8 c = search needs
+
+same-length-9 : tie.Need-same-length-9
+same-length-9 c = search needs
+
+same-length-10 : tie.Need-same-length-10
+same-length-10 c = search needs
+
 returns-2 : tie.Need-returns-2
 returns-2 c =
-    let p = c .before .before .before .before .before .before .before .before .before .before .before .before .before .before .before .before .before .before .pre in
-    let S = c .before .before .before .before .before .before .before .before .before .survey-all .ensures in
-    let z : c .before .before .before .before .before .before .before .before .before .survey-all .result .fault ≡ 0 = omega (arith, c .before .before .if1 .left) in
-    deserved _ _ _ (given-append formTests surveyTests _ 0 0 (p .0 .1) (subst (Given surveyTests _ 0) z (S .given))) (c .weigh .ensures)
+    let p = c .before .before .before .before .before .before .before .before .before .before .before .before .before .before .before .before .before .before .before .before .before .before .before .before .before .before .before .before .before .pre in
+    let S = c .before .before .before .before .before .before .before .before .before .before .before .before .before .before .before .before .survey-all in
+    let z : S .result .fault ≡ 0 = omega (arith, c .before .before .before .before .before .if1 .left) in
+    deserved _ _ _ (given-append formTests surveyTests _ 0 0 (p .0 .1) (subst (Given surveyTests _ 0) z (S .ensures .given))) (c .before .before .weigh .ensures)
 
 pub judge-drawn-spec : {M : Type 1} → statement M
 judge-drawn-spec =
@@ -61,9 +74,13 @@ judge-drawn-spec =
     same-length
     same-length-2
     same-length-3
-    returns
-    weigh-requires
     same-length-4
     same-length-5
+    returns
+    weigh-requires
     same-length-6
+    same-length-7
+    same-length-8
+    same-length-9
+    same-length-10
     returns-2)

@@ -36,103 +36,115 @@ body-of-requires c κs = search needs
 
 returns-2 : tie.Need-returns-2
 returns-2 c =
-    let a = c .before .before .before .before .before .before .before .before .before .before .args in
+    let a = c .before .before .before .before .before .before .before .before .before .before .before .args in
     let h = c .before .before .before .before .header in
     let r = h .given .0 .0 in
     let n = h .given .0 .1 .0 in
     let g = drawing (a .chart .now) in
-    let S = c .before .before .before .before .before .before .before .before .before .before .pre .0 .formed .shape in
+    let S = c .before .before .before .before .before .before .before .before .before .before .before .pre .0 .formed .shape in
     let read : good r n ≡ form (a .report .now) = sym (ap formed (h .given .1)) ∙ c .before .before .before .before .before .before .form-of .ensures in
     (2, other-count g (a .report .now) r n read (c .before .if1 .taken) (λ e. c .if2 .taken (e ∙ sym (S .darts))), refl)
 
 labels-right-requires : tie.Need-labels-right-requires
 labels-right-requires c κs =
-    let a = c .before .before .before .before .before .before .before .before .before .before .args in
-    let h = c .before .before .before .before .header in
+    let a = c .before .before .before .before .before .before .before .before .before .before .before .before .args in
+    let h = c .before .before .before .before .before .header in
     let r = h .given .0 .0 in
     let n = h .given .0 .1 .0 in
     let g = drawing (a .chart .now) in
-    let S = c .before .before .before .before .before .before .before .before .before .before .pre .0 .formed .shape in
-    let read : good r n ≡ form (a .report .now) = sym (ap formed (h .given .1)) ∙ c .before .before .before .before .before .before .form-of .ensures in
-    let one : entry r * n ≡ 1 * n = ap (λ (q : ℕ). entry q * n) (c .before .if1 .taken) in
-    (c .before .before .before .before .before .before .before .before .before .before .pre .0, (c .before .before .before .before .before .before .before .before .before .before .pre .1, omega (arith, ap length (c .before .before .body-of .ensures .0), good-length (a .report .now) r n read, one, c .if2 .left)))
+    let S = c .before .before .before .before .before .before .before .before .before .before .before .before .pre .0 .formed .shape in
+    let read : good r n ≡ form (a .report .now) = sym (ap formed (h .given .1)) ∙ c .before .before .before .before .before .before .before .form-of .ensures in
+    let one : entry r * n ≡ 1 * n = ap (λ (q : ℕ). entry q * n) (c .before .before .if1 .taken) in
+    ((c .before .before .before .before .before .before .before .before .before .before .before .before .pre .0, (c .before .before .before .before .before .before .before .before .before .before .before .before .pre .1, omega (arith, ap length (c .before .before .before .body-of .ensures .0), good-length (a .report .now) r n read, one, c .before .if2 .left))), (c .before .before .before .before .before .before .before .before .before .before .before .before .pre .2, c .before .before .before .before .before .before .before .before .before .before .before .before .pre .3))
 
 returns-3 : tie.Need-returns-3
 returns-3 c =
-    let a = c .before .before .before .before .before .before .before .before .before .before .before .before .args in
-    let h = c .before .before .before .before .before .before .header in
+    let a = c .before .before .before .before .before .before .before .before .before .before .before .before .before .before .before .before .args in
+    let h = c .before .before .before .before .before .before .before .before .before .header in
     let r = h .given .0 .0 in
     let n = h .given .0 .1 .0 in
     let g = drawing (a .chart .now) in
-    let S = c .before .before .before .before .before .before .before .before .before .before .before .before .pre .0 .formed .shape in
-    let read : good r n ≡ form (a .report .now) = sym (ap formed (h .given .1)) ∙ c .before .before .before .before .before .before .before .before .form-of .ensures in
-    let e : n ≡ darts g = c .before .before .if2 .left ∙ S .darts in
-    let b = c .before .labels-right .result in
-    let says : Says b (Labelling g (body (a .report .now))) = subst (λ (l : List ℕ). Says b (Labelling g l)) (c .before .before .before .before .body-of .ensures .0) (c .before .labels-right .ensures) in
-    (0, subst (λ (x : Bool). Deserves g (a .report .now) (cond x 0 3)) (c .if3 .taken) (labels-deserve g (a .report .now) r n read (c .before .before .before .if1 .taken) e b says), refl)
+    let S = c .before .before .before .before .before .before .before .before .before .before .before .before .before .before .before .before .pre .0 .formed .shape in
+    let read : good r n ≡ form (a .report .now) = sym (ap formed (h .given .1)) ∙ c .before .before .before .before .before .before .before .before .before .before .before .form-of .ensures in
+    let e : n ≡ darts g = c .before .before .before .before .before .if2 .left ∙ S .darts in
+    let b = c .before .before .before .labels-right .result in
+    let says : Says b (Labelling g (body (a .report .now))) = subst (λ (l : List ℕ). Says b (Labelling g l)) (c .before .before .before .before .before .before .before .body-of .ensures .0) (c .before .before .before .labels-right .ensures) in
+    (0, subst (λ (x : Bool). Deserves g (a .report .now) (cond x 0 3)) (c .if3 .taken) (labels-deserve g (a .report .now) r n read (c .before .before .before .before .before .before .if1 .taken) e b says), refl)
 
 returns-4 : tie.Need-returns-4
 returns-4 c =
-    let a = c .before .before .before .before .before .before .before .before .before .before .before .before .args in
-    let h = c .before .before .before .before .before .before .header in
+    let a = c .before .before .before .before .before .before .before .before .before .before .before .before .before .before .before .before .args in
+    let h = c .before .before .before .before .before .before .before .before .before .header in
     let r = h .given .0 .0 in
     let n = h .given .0 .1 .0 in
     let g = drawing (a .chart .now) in
-    let S = c .before .before .before .before .before .before .before .before .before .before .before .before .pre .0 .formed .shape in
-    let read : good r n ≡ form (a .report .now) = sym (ap formed (h .given .1)) ∙ c .before .before .before .before .before .before .before .before .form-of .ensures in
-    let e : n ≡ darts g = c .before .before .if2 .left ∙ S .darts in
-    let b = c .before .labels-right .result in
-    let says : Says b (Labelling g (body (a .report .now))) = subst (λ (l : List ℕ). Says b (Labelling g l)) (c .before .before .before .before .body-of .ensures .0) (c .before .labels-right .ensures) in
-    (3, subst (λ (x : Bool). Deserves g (a .report .now) (cond x 0 3)) (c .if3 .left) (labels-deserve g (a .report .now) r n read (c .before .before .before .if1 .taken) e b says), refl)
+    let S = c .before .before .before .before .before .before .before .before .before .before .before .before .before .before .before .before .pre .0 .formed .shape in
+    let read : good r n ≡ form (a .report .now) = sym (ap formed (h .given .1)) ∙ c .before .before .before .before .before .before .before .before .before .before .before .form-of .ensures in
+    let e : n ≡ darts g = c .before .before .before .before .before .if2 .left ∙ S .darts in
+    let b = c .before .before .before .labels-right .result in
+    let says : Says b (Labelling g (body (a .report .now))) = subst (λ (l : List ℕ). Says b (Labelling g l)) (c .before .before .before .before .before .before .before .body-of .ensures .0) (c .before .before .before .labels-right .ensures) in
+    (3, subst (λ (x : Bool). Deserves g (a .report .now) (cond x 0 3)) (c .if3 .left) (labels-deserve g (a .report .now) r n read (c .before .before .before .before .before .before .if1 .taken) e b says), refl)
 
 cut-right-requires : tie.Need-cut-right-requires
 cut-right-requires c κs =
-    let a = c .before .before .before .before .before .before .before .before .before .before .args in
-    let h = c .before .before .before .before .header in
+    let a = c .before .before .before .before .before .before .before .before .before .before .before .before .args in
+    let h = c .before .before .before .before .before .header in
     let r = h .given .0 .0 in
     let n = h .given .0 .1 .0 in
     let g = drawing (a .chart .now) in
-    let S = c .before .before .before .before .before .before .before .before .before .before .pre .0 .formed .shape in
-    let read : good r n ≡ form (a .report .now) = sym (ap formed (h .given .1)) ∙ c .before .before .before .before .before .before .form-of .ensures in
-    let two : entry r * n ≡ 2 * n = ap (λ (q : ℕ). entry q * n) (c .if4 .taken) in
-    (c .before .before .before .before .before .before .before .before .before .before .pre .0, (c .before .before .before .before .before .before .before .before .before .before .pre .1, omega (arith, ap length (c .before .before .body-of .ensures .0), good-length (a .report .now) r n read, two)))
+    let S = c .before .before .before .before .before .before .before .before .before .before .before .before .pre .0 .formed .shape in
+    let read : good r n ≡ form (a .report .now) = sym (ap formed (h .given .1)) ∙ c .before .before .before .before .before .before .before .form-of .ensures in
+    let two : entry r * n ≡ 2 * n = ap (λ (q : ℕ). entry q * n) (c .before .if4 .taken) in
+    ((c .before .before .before .before .before .before .before .before .before .before .before .before .pre .0, (c .before .before .before .before .before .before .before .before .before .before .before .before .pre .1, omega (arith, ap length (c .before .before .before .body-of .ensures .0), good-length (a .report .now) r n read, two))), (c .before .before .before .before .before .before .before .before .before .before .before .before .pre .2, c .before .before .before .before .before .before .before .before .before .before .before .before .pre .3))
 
 returns-5 : tie.Need-returns-5
 returns-5 c =
-    let a = c .before .before .before .before .before .before .before .before .before .before .before .before .args in
-    let h = c .before .before .before .before .before .before .header in
+    let a = c .before .before .before .before .before .before .before .before .before .before .before .before .before .before .before .before .args in
+    let h = c .before .before .before .before .before .before .before .before .before .header in
     let r = h .given .0 .0 in
     let n = h .given .0 .1 .0 in
     let g = drawing (a .chart .now) in
-    let S = c .before .before .before .before .before .before .before .before .before .before .before .before .pre .0 .formed .shape in
-    let read : good r n ≡ form (a .report .now) = sym (ap formed (h .given .1)) ∙ c .before .before .before .before .before .before .before .before .form-of .ensures in
-    let b = c .before .cut-right .result in
-    let says : Says b (Cut g (words (body (a .report .now)) 0 n)) = subst (λ (l : List ℕ). Says b (Cut g (words l 0 n))) (c .before .before .before .before .body-of .ensures .0) (c .before .cut-right .ensures) in
-    (1, subst (λ (x : Bool). Deserves g (a .report .now) (cond x 1 4)) (c .if5 .taken) (cut-deserves g (a .report .now) r n read (c .before .before .if4 .taken) b says), refl)
+    let S = c .before .before .before .before .before .before .before .before .before .before .before .before .before .before .before .before .pre .0 .formed .shape in
+    let read : good r n ≡ form (a .report .now) = sym (ap formed (h .given .1)) ∙ c .before .before .before .before .before .before .before .before .before .before .before .form-of .ensures in
+    let b = c .before .before .before .cut-right .result in
+    let says : Says b (Cut g (words (body (a .report .now)) 0 n)) = subst (λ (l : List ℕ). Says b (Cut g (words l 0 n))) (c .before .before .before .before .before .before .before .body-of .ensures .0) (c .before .before .before .cut-right .ensures) in
+    (1, subst (λ (x : Bool). Deserves g (a .report .now) (cond x 1 4)) (c .if5 .taken) (cut-deserves g (a .report .now) r n read (c .before .before .before .before .before .if4 .taken) b says), refl)
 
 returns-6 : tie.Need-returns-6
 returns-6 c =
-    let a = c .before .before .before .before .before .before .before .before .before .before .before .before .args in
-    let h = c .before .before .before .before .before .before .header in
+    let a = c .before .before .before .before .before .before .before .before .before .before .before .before .before .before .before .before .args in
+    let h = c .before .before .before .before .before .before .before .before .before .header in
     let r = h .given .0 .0 in
     let n = h .given .0 .1 .0 in
     let g = drawing (a .chart .now) in
-    let S = c .before .before .before .before .before .before .before .before .before .before .before .before .pre .0 .formed .shape in
-    let read : good r n ≡ form (a .report .now) = sym (ap formed (h .given .1)) ∙ c .before .before .before .before .before .before .before .before .form-of .ensures in
-    let b = c .before .cut-right .result in
-    let says : Says b (Cut g (words (body (a .report .now)) 0 n)) = subst (λ (l : List ℕ). Says b (Cut g (words l 0 n))) (c .before .before .before .before .body-of .ensures .0) (c .before .cut-right .ensures) in
-    (4, subst (λ (x : Bool). Deserves g (a .report .now) (cond x 1 4)) (c .if5 .left) (cut-deserves g (a .report .now) r n read (c .before .before .if4 .taken) b says), refl)
+    let S = c .before .before .before .before .before .before .before .before .before .before .before .before .before .before .before .before .pre .0 .formed .shape in
+    let read : good r n ≡ form (a .report .now) = sym (ap formed (h .given .1)) ∙ c .before .before .before .before .before .before .before .before .before .before .before .form-of .ensures in
+    let b = c .before .before .before .cut-right .result in
+    let says : Says b (Cut g (words (body (a .report .now)) 0 n)) = subst (λ (l : List ℕ). Says b (Cut g (words l 0 n))) (c .before .before .before .before .before .before .before .body-of .ensures .0) (c .before .before .before .cut-right .ensures) in
+    (4, subst (λ (x : Bool). Deserves g (a .report .now) (cond x 1 4)) (c .if5 .left) (cut-deserves g (a .report .now) r n read (c .before .before .before .before .before .if4 .taken) b says), refl)
 
 returns-7 : tie.Need-returns-7
 returns-7 c =
-    let a = c .before .before .before .before .before .before .before .before .before .before .args in
+    let a = c .before .before .before .before .before .before .before .before .before .before .before .args in
     let h = c .before .before .before .before .header in
     let r = h .given .0 .0 in
     let n = h .given .0 .1 .0 in
     let g = drawing (a .chart .now) in
-    let S = c .before .before .before .before .before .before .before .before .before .before .pre .0 .formed .shape in
+    let S = c .before .before .before .before .before .before .before .before .before .before .before .pre .0 .formed .shape in
     let read : good r n ≡ form (a .report .now) = sym (ap formed (h .given .1)) ∙ c .before .before .before .before .before .before .form-of .ensures in
     (2, other-result g (a .report .now) r n read (c .before .if1 .left) (c .if4 .left), refl)
+
+same-length : tie.Need-same-length
+same-length c = search needs
+
+same-length-2 : tie.Need-same-length-2
+same-length-2 c = search needs
+
+same-length-3 : tie.Need-same-length-3
+same-length-3 c = search needs
+
+same-length-4 : tie.Need-same-length-4
+same-length-4 c = search needs
 
 pub weigh-spec : {M : Type 1} → statement M
 weigh-spec =
@@ -145,9 +157,13 @@ weigh-spec =
     body-of-requires
     returns-2
     labels-right-requires
+    same-length
     returns-3
+    same-length-2
     returns-4
     cut-right-requires
+    same-length-3
     returns-5
+    same-length-4
     returns-6
     returns-7)

@@ -12,7 +12,7 @@ room-table-requires : tie.Need-room-table-requires
 room-table-requires c κs =
     let p = c .before .before .before .before .before .before .before .before .before .pre in
     let C = p .0 .0 in
-    (C .formed .shape, C .past .rings, C .formed .outer, p .0 .1 .0, c .before .outer-dart .ensures, search needs, clear-rooms _ _ _ C)
+    (C .formed .shape, C .past .rings, C .formed .outer, p .0 .1 .0, c .before .outer-dart .ensures, search needs, p .1 .0 .1 .1, clear-rooms _ _ _ C)
 
 pole-table-requires : tie.Need-pole-table-requires
 pole-table-requires c κs = search needs

@@ -1,10 +1,9 @@
 -- `labels::count_corner` meets its contract: one corner more is counted. Assumes nothing.
 use native.Mathlib.Omega.{arith}
-use mathlib.Core.Path.{_≡_, refl, _∙_}
-use Prim.Native.Nat.{_%_, _<_, _≤_}
+use mathlib.Core.Path.{refl}
+use Prim.Native.Nat.{_<_, _≤_}
 use borrow.Author.Needs.{needs}
 use Rattle.drawing.specs.Drawing.{darts}
-use Rattle.drawing.proofs.Faces.{corner-into}
 use Rattle.rules.specs.Chart.{drawing}
 use Rattle.labels.proofs.Counting.{event-key, face-key, counted-more}
 use Rattle.labels.proofs.count_corner.Statement.{statement}
@@ -22,8 +21,7 @@ add-large-requires c κs =
     let S = p .0 .0 in
     let small : darts (drawing (c .before .before .before .before .before .before .before .before .args .chart .now)) ≤ 6144 = omega (arith, S .darts, S .few) in
     let inside : c .before .before .before .before .before .before .before .before .args .c < darts (drawing (c .before .before .before .before .before .before .before .before .args .chart .now)) = omega (arith, S .darts, p .1 .0 .1) in
-    let even : darts (drawing (c .before .before .before .before .before .before .before .before .args .chart .now)) % 2 ≡ 0 = omega (arith, S .darts, S .even) in
-    event-key _ _ _ _ _ (p .1 .1) inside small (p .0 .1 .0) _ (c .before .event-of .ensures)
+    event-key _ _ _ _ _ _ (p .1 .1) inside small (p .0 .1 .0) _ (c .before .event-of .ensures)
 
 get-requires : tie.Need-get-requires
 get-requires c κs = search needs
@@ -34,8 +32,7 @@ add-large-requires-2 c κs =
     let S = p .0 .0 in
     let small : darts (drawing (c .before .before .before .before .before .before .before .before .before .before .before .before .before .args .chart .now)) ≤ 6144 = omega (arith, S .darts, S .few) in
     let inside : c .before .before .before .before .before .before .before .before .before .before .before .before .before .args .c < darts (drawing (c .before .before .before .before .before .before .before .before .before .before .before .before .before .args .chart .now)) = omega (arith, S .darts, p .1 .0 .1) in
-    let even : darts (drawing (c .before .before .before .before .before .before .before .before .before .before .before .before .before .args .chart .now)) % 2 ≡ 0 = omega (arith, S .darts, S .even) in
-    face-key _ _ _ _ _ (p .1 .1) inside small (corner-into _ even (p .0 .1 .1 .0) _ inside) _ (c .before .get .ensures ∙ p .0 .1 .1 .1 .each _ inside)
+    face-key _ _ _ _ _ _ (p .1 .1) inside small (p .0 .1 .1 .1 .inside _ inside) _ (c .before .get .ensures)
 
 same-length : tie.Need-same-length
 same-length c = search needs
@@ -47,11 +44,9 @@ returns : tie.Need-returns
 returns c =
     let p = c .before .before .before .before .before .before .before .before .before .before .before .before .before .before .before .before .pre in
     let S = p .0 .0 in
-    let small : darts (drawing (c .before .before .before .before .before .before .before .before .before .before .before .before .before .before .before .before .args .chart .now)) ≤ 6144 = omega (arith, S .darts, S .few) in
     let inside : c .before .before .before .before .before .before .before .before .before .before .before .before .before .before .before .before .args .c < darts (drawing (c .before .before .before .before .before .before .before .before .before .before .before .before .before .before .before .before .args .chart .now)) = omega (arith, S .darts, p .1 .0 .1) in
-    let even : darts (drawing (c .before .before .before .before .before .before .before .before .before .before .before .before .before .before .before .before .args .chart .now)) % 2 ≡ 0 = omega (arith, S .darts, S .even) in
-    counted-more _ _ _ _ _ (p .1 .1) inside (p .0 .1 .0) (corner-into _ even (p .0 .1 .1 .0) _ inside) _ _ _ _ _
-    (c .before .before .before .before .before .before .before .before .before .event-of .ensures) (c .before .before .before .before .get .ensures ∙ p .0 .1 .1 .1 .each _ inside) refl (c .before .before .before .before .before .before .before .add-large .ensures) (c .before .before .add-large2 .ensures)
+    counted-more _ _ _ _ _ _ (p .1 .1) inside (p .0 .1 .0) (p .0 .1 .1 .1 .inside _ inside) _ _ _ _ _
+    (c .before .before .before .before .before .before .before .before .before .event-of .ensures) (c .before .before .before .before .get .ensures) refl (c .before .before .before .before .before .before .before .add-large .ensures) (c .before .before .add-large2 .ensures)
 
 pub count-corner-spec : {M : Type 1} → statement M
 count-corner-spec =

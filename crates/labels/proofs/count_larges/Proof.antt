@@ -1,5 +1,5 @@
 -- `labels::count_larges` meets its contract: the corners below c are counted. Assumes nothing.
-use mathlib.Core.Path.{_≡_, subst, _∙_}
+use mathlib.Core.Path.{_≡_, subst}
 use Prim.Native.Nat.{_-_, _≤_}
 use native.Mathlib.Omega.{arith}
 use borrow.Author.Needs.{needs}
@@ -10,7 +10,7 @@ use Rattle.labels.proofs.count_larges.Statement.{statement}
 use Rattle.labels.proofs.count_larges.Tie as tie
 
 abbrev Inv-loop : tie.InvT-loop
-Inv-loop chart n here body tally₀ load₀ c₀ tally load c = (c ≤ n) × Counted (drawing chart) body tally load c
+Inv-loop chart n here body tally₀ load₀ c₀ tally load c = (c ≤ n) × Counted (drawing chart) here body tally load c
 
 abbrev μ-loop : tie.MeasureT-loop
 μ-loop chart n here body tally₀ load₀ c₀ tally load c = n - c
@@ -24,7 +24,7 @@ fill-requires-2 c κs = search needs
 loop-holds : tie.Need-loop-holds Inv-loop μ-loop
 loop-holds c =
     let p = c .before .before .before .before .before .before .before .before .before .before .before .before .before .pre in
-    (search needs, counted-none _ _ _ _ _ _ (p .1 .1 .0) (p .1 .1 .1 ∙ p .0 .0 .darts) (c .before .before .before .before .before .before .fill .ensures) (c .before .before .fill2 .ensures))
+    (search needs, counted-none _ _ _ _ _ _ _ (p .1 .1 .0) (p .1 .1 .1) (c .before .before .before .before .before .before .fill .ensures) (c .before .before .fill2 .ensures))
 
 count-corner-requires : tie.Need-count-corner-requires Inv-loop μ-loop
 count-corner-requires c κs = search needs
@@ -48,7 +48,7 @@ returns : tie.Need-returns Inv-loop μ-loop
 returns c =
     let l = c .before .loop in
     let e : l .c ≡ c .before .before .before .before .before .before .before .before .before .before .before .before .before .before .before .args .n = omega arith in
-    subst (Counted _ _ _ _) e (l .inv .1)
+    subst (Counted _ _ _ _ _) e (l .inv .1)
 
 pub count-larges-spec : {M : Type 1} → statement M
 count-larges-spec =

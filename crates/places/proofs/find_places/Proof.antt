@@ -1,53 +1,23 @@
--- `places::find_places` meets its contract: the tables that it lends place nobody and list nothing. Assumes nothing.
-use native.Mathlib.Omega.{arith}
-use Rattle.finite.proofs.Filled.{lent, lent-length}
-use lib.ListN.{length, replicate}
-use Prim.Native.Nat.{ℕ}
+-- `places::find_places` meets its contract: all sources and sinks are placed, or one has no place. Assumes nothing.
 use mathlib.Core.Path.{_∙_, ap}
+use Prim.Native.Nat.{ℕ}
+use native.Mathlib.Omega.{arith}
+use lib.ListN.{replicate}
 use borrow.Author.Needs.{needs}
+use Rattle.places.proofs.Ends.{begin, left, found-labels, found-cut}
 use Rattle.places.proofs.find_places.Statement.{statement}
 use Rattle.places.proofs.find_places.Tie as tie
 
-sub-place : tie.Need-sub-place
-sub-place c = search needs
+fill-requires : tie.Need-fill-requires
+fill-requires c κs = search needs
 
-part-large-start : tie.Need-part-large-start
-part-large-start c = search needs
+seat-all-requires : tie.Need-seat-all-requires
+seat-all-requires c κs =
+    let p = c .before .before .before .before .before .before .before .before .before .before .before .before .before .before .pre in
+    begin (p .0) (p .1) (c .before .before .before .before .before .fill .ensures ∙ ap (λ (k : ℕ). replicate k 65535) (p .2))
 
-part-large-end : tie.Need-part-large-end
-part-large-end c = search needs
-
-sub-place-2 : tie.Need-sub-place-2
-sub-place-2 c = search needs
-
-part-rank-start : tie.Need-part-rank-start
-part-rank-start c = search needs
-
-part-rank-end : tie.Need-part-rank-end
-part-rank-end c = search needs
-
-sub-place-3 : tie.Need-sub-place-3
-sub-place-3 c = search needs
-
-part-via-start : tie.Need-part-via-start
-part-via-start c = search needs
-
-part-via-end : tie.Need-part-via-end
-part-via-end c = search needs
-
-place-requires : tie.Need-place-requires
-place-requires c κs =
-    let pre = c .before .before .before .before .before .before .before .before .before .before .before .before .pre in
-    let args = c .before .before .before .before .before .before .before .before .before .before .before .before .args in (
-      pre .0,
-      pre .1,
-      record {
-        large = lent 1024 (length (args .list .now)) 65535 (omega (arith, pre .0 .events .1, pre .1 .poled .size)) ∙ ap (λ (k : ℕ). replicate k 65535) (pre .1 .poled .size);
-        ranks = lent 6144 (args .n) 0 (pre .0 .few) ∙ ap (λ (k : ℕ). replicate k 0) (pre .0 .darts);
-        vias = lent-length 6144 (args .n) 0 (pre .0 .few) ∙ pre .0 .darts;
-      },
-      pre .2,
-    )
+rest-requires : tie.Need-rest-requires
+rest-requires c κs = let p = c .before .before .before .before .before .before .before .before .before .before .before .before .before .before .before .before .before .before .before .before .before .before .pre in left (p .0) (p .1) (c .before .before .before .before .before .before .before .seat-all .ensures)
 
 same-length : tie.Need-same-length
 same-length c = search needs
@@ -59,23 +29,47 @@ same-length-3 : tie.Need-same-length-3
 same-length-3 c = search needs
 
 returns : tie.Need-returns
-returns c = search needs
+returns c =
+    let p = c .before .before .before .before .before .before .before .before .before .before .before .before .before .before .before .before .before .before .before .before .before .before .before .before .before .before .before .before .before .before .pre in
+    found-cut (p .0) (p .1) (c .before .before .before .before .before .before .before .before .before .before .before .before .before .before .before .seat-all .ensures) (c .before .before .before .before .before .before .before .rest .ensures) _ (c .if1 .taken) (c .before .before .list .given ∙ p .1 .poled .size)
+
+write-labels-requires : tie.Need-write-labels-requires
+write-labels-requires c κs =
+    let p = c .before .before .before .before .before .before .before .before .before .before .before .before .before .before .before .before .before .before .before .before .before .before .before .before .before .before .before .before .before .before .before .before .pre in
+    let R = c .before .before .before .before .before .before .before .before .before .rest .ensures in
+    (p .0, p .3, R .events, p .1 .known, R .all (omega (arith, c .before .before .if1 .left)) .own)
+
+same-length-4 : tie.Need-same-length-4
+same-length-4 c = search needs
+
+same-length-5 : tie.Need-same-length-5
+same-length-5 c = search needs
+
+same-length-6 : tie.Need-same-length-6
+same-length-6 c = search needs
+
+same-length-7 : tie.Need-same-length-7
+same-length-7 c = search needs
+
+returns-2 : tie.Need-returns-2
+returns-2 c =
+    let p = c .before .before .before .before .before .before .before .before .before .before .before .before .before .before .before .before .before .before .before .before .before .before .before .before .before .before .before .before .before .before .before .before .before .before .before .pre in
+    found-labels (p .0) (p .1) (c .before .before .before .before .before .before .before .before .before .before .before .before .before .before .before .before .before .before .before .before .seat-all .ensures) (c .before .before .before .before .before .before .before .before .before .before .before .before .rest .ensures) _ (omega (arith, c .before .before .before .before .before .if1 .left)) (c .before .before .write-labels .ensures)
 
 pub find-places-spec : {M : Type 1} → statement M
 find-places-spec =
     tie.close
     (tie.spec
-    sub-place
-    part-large-start
-    part-large-end
-    sub-place-2
-    part-rank-start
-    part-rank-end
-    sub-place-3
-    part-via-start
-    part-via-end
-    place-requires
+    fill-requires
+    seat-all-requires
+    rest-requires
     same-length
     same-length-2
     same-length-3
-    returns)
+    returns
+    write-labels-requires
+    same-length-4
+    same-length-5
+    same-length-6
+    same-length-7
+    returns-2)

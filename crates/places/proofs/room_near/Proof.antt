@@ -20,13 +20,13 @@ loop-holds : tie.Need-loop-holds Inv-loop μ-loop
 loop-holds c = (c .before .before .before .pre .2, refl)
 
 get-requires : tie.Need-get-requires Inv-loop μ-loop
-get-requires c κs = let pre = c .before .before .before .before .before .pre in omega (arith, c .before .loop .inv .0, pre .0 .board .faced .size, pre .0 .shape .darts)
+get-requires c κs = let pre = c .before .before .before .before .before .pre in omega (arith, c .before .loop .inv .0, pre .0 .board .keyed .size, pre .0 .shape .darts)
 
 get-requires-2 : tie.Need-get-requires-2 Inv-loop μ-loop
 get-requires-2 c κs =
     let pre = c .before .before .before .before .before .before .pre in
     let l = c .before .before .loop in
-    omega (arith, c .get .ensures, here-into (pre .0 .board) (l .c) (omega (arith, l .inv .0, pre .0 .shape .darts)), pre .0 .shape .darts, pre .1)
+    omega (arith, c .get .ensures, here-into (pre .0 .board) (l .c) (omega (arith, l .inv .0, pre .0 .shape .darts)), pre .1)
 
 returns : tie.Need-returns Inv-loop μ-loop
 returns c =

@@ -1,12 +1,14 @@
--- `places::search` meets its contract: the faces of the first h entries are full, and the list goes on from them. Assumes nothing.
+-- `places::search` meets its contract: all listed faces are full, and the list goes on from each, up to a face with room. Assumes nothing.
 use native.Mathlib.Omega.{arith}
-use borrow.Author.Needs.{needs}
-use Rattle.placing.proofs.Finds.{search-start, corner-in, face-in, via-in, way, search-step, stuck}
-use Rattle.placing.proofs.Listing.{held-none, ends-few}
-use Rattle.placing.proofs.Boards.{here-into}
-use Rattle.placing.specs.Search.{Search}
-use Rattle.rules.specs.Chart.{drawing}
+use mathlib.Core.Path.{sym, _∙_}
 use Prim.Native.Nat.{_-_}
+use Rattle.rules.specs.Chart.{drawing}
+use Rattle.chart.proofs.Keys.{faces-few}
+use Rattle.placing.specs.Search.{Search}
+use Rattle.placing.proofs.Boards.{here-into}
+use Rattle.placing.proofs.Listing.{held-none, ends-few}
+use Rattle.placing.proofs.Finds.{search-start, way-start, corner-in, via-in, way-step, search-step, stuck}
+use borrow.Author.Needs.{needs}
 use Rattle.places.proofs.search.Statement.{statement}
 use Rattle.places.proofs.search.Tie as tie
 
@@ -18,116 +20,86 @@ abbrev μ-loop : tie.MeasureT-loop
 
 touch-requires : tie.Need-touch-requires Inv-loop μ-loop
 touch-requires c κs =
-    let pre = c .before .before .before .before .before .before .before .before .pre in
-    (pre .reads, held-none (λ d l. omega (arith, here-into (pre .reads .board) d (omega (arith, pre .reads .board .faced .size)), pre .reads .board .faced .size)) (omega (arith, pre .fresh .ranks, pre .reads .board .faced .size)) (omega (arith, pre .fresh .vias, pre .reads .board .faced .size)) (pre .fresh .blank), pre .inside)
-
-loop-holds : tie.Need-loop-holds Inv-loop μ-loop
-loop-holds c =
-    let pre = c .before .before .before .before .before .before .before .before .before .before .before .before .before .pre in
-    let touch = c .before .before .before .before .touch in
-    search-start (rw (pre .own) at (touch .ensures))
-
-get-requires : tie.Need-get-requires Inv-loop μ-loop
-get-requires c κs =
-    let pre = c .before .before .before .before .before .before .before .before .before .before .before .before .before .before .before .before .pre in
-    let loop = c .before .before .loop in
-    via-in (pre .reads .board) (pre .valid) (loop .inv) (search needs)
-
-get-requires-2 : tie.Need-get-requires-2 Inv-loop μ-loop
-get-requires-2 c κs =
-    let pre = c .before .before .before .before .before .before .before .before .before .before .before .before .before .before .before .before .before .pre in
-    let loop = c .before .before .before .loop in
-    let loop-test = c .before .before .loop-test in
-    let get = c .get in
-    omega (arith, corner-in (pre .reads .board) (pre .valid) (loop .inv) (loop-test .taken) (get .ensures), pre .reads .board .faced .size)
-
-get-requires-3 : tie.Need-get-requires-3 Inv-loop μ-loop
-get-requires-3 c κs =
-    let pre = c .before .before .before .before .before .before .before .before .before .before .before .before .before .before .before .before .before .before .pre in
-    let loop = c .before .before .before .before .loop in
-    let loop-test = c .before .before .before .loop-test in
-    let get = c .before .get in
-    let get2 = c .get2 in
-    omega (arith, face-in (pre .reads .board) (pre .valid) (loop .inv) (loop-test .taken) (get .ensures) (get2 .ensures), pre .valid .faces)
-
-same-length : tie.Need-same-length Inv-loop μ-loop
-same-length c =
-    let loop = c .before .before .before .before .before .before .loop in
-    let pre = c .before .before .before .before .before .before .before .before .before .before .before .before .before .before .before .before .before .before .before .before .pre in
-    omega (arith, loop .inv .held .ranks, pre .fresh .ranks, pre .reads .board .faced .size)
-
-same-length-2 : tie.Need-same-length-2 Inv-loop μ-loop
-same-length-2 c =
-    let loop = c .before .before .before .before .before .before .loop in
-    let pre = c .before .before .before .before .before .before .before .before .before .before .before .before .before .before .before .before .before .before .before .before .pre in
-    omega (arith, loop .inv .held .vias, pre .fresh .vias, pre .reads .board .faced .size)
+    let B = c .before .before .before .before .before .before .before .before .pre .reads .board in
+    let F = c .before .before .before .before .before .before .before .before .pre .fresh in (
+      c .before .before .before .before .before .before .before .before .pre .reads,
+      held-none (λ d l. omega (arith, here-into B d (omega (arith, B .keyed .size)), F .ranks)) (omega (arith, F .ranks, B .keyed .size, faces-few (drawing (c .before .before .before .before .before .before .before .before .args .chart .now)))) (F .vias ∙ sym (F .ranks)) (F .blank),
+      c .before .before .before .before .before .before .before .before .pre .inside,
+      omega (arith, F .ranks, c .before .before .before .before .before .before .before .before .pre .valid .keys),
+    )
 
 returns : tie.Need-returns Inv-loop μ-loop
 returns c =
-    let loop = c .before .before .before .before .before .before .loop in
-    let pre = c .before .before .before .before .before .before .before .before .before .before .before .before .before .before .before .before .before .before .before .before .pre in
-    let loop-test = c .before .before .before .before .before .loop-test in
-    let get = c .before .before .before .get in
-    let get2 = c .before .before .get2 in
-    let if1 = c .if1 in
-    let get3 = c .before .get3 in
+    let R = rw (c .before .before .before .before .before .before .before .before .before .before .before .before .before .before .pre .own) at (c .before .before .before .before .before .touch .ensures .1 (c .if1 .taken)) in
     record {
-      held = loop .inv .held;
-      way = λ q. way (pre .reads .board) (pre .valid) (loop .inv) (loop-test .taken) (get .ensures) (get2 .ensures) (omega (arith, if1 .taken, get3 .ensures));
-      stuck = λ q. absurd (omega (arith, ends-few (loop .inv .held), pre .reads .board .faced .size, pre .reads .shape .darts, pre .reads .shape .few));
+      held = R .grown .held;
+      ranks = R .grown .size ∙ c .before .before .before .before .before .before .before .before .before .before .before .before .before .before .pre .fresh .ranks;
+      way = λ q. way-start _ R;
+      stuck = λ q. absurd (omega (arith, ends-few (R .grown .held), R .grown .held .ranks, c .before .before .before .before .before .before .before .before .before .before .before .before .before .before .pre .reads .board .keyed .size, c .before .before .before .before .before .before .before .before .before .before .before .before .before .before .pre .reads .shape .darts, c .before .before .before .before .before .before .before .before .before .before .before .before .before .before .pre .reads .shape .few));
     }
+
+loop-holds : tie.Need-loop-holds Inv-loop μ-loop
+loop-holds c = search-start (c .before .before .before .before .before .before .before .before .before .before .before .before .before .before .pre .fresh .ranks) (rw (c .before .before .before .before .before .before .before .before .before .before .before .before .before .before .pre .own) at (c .before .before .before .before .before .touch .ensures .0 (omega (arith, c .if1 .left))))
+
+get-requires : tie.Need-get-requires Inv-loop μ-loop
+get-requires c κs = via-in (c .before .before .before .before .before .before .before .before .before .before .before .before .before .before .before .before .before .pre .reads .board) (c .before .before .before .before .before .before .before .before .before .before .before .before .before .before .before .before .before .pre .valid) (c .before .before .loop .inv) (c .before .loop-test .taken)
 
 scan-requires : tie.Need-scan-requires Inv-loop μ-loop
 scan-requires c κs =
-    let pre = c .before .before .before .before .before .before .before .before .before .before .before .before .before .before .before .before .before .before .before .before .before .before .pre in
-    let loop = c .before .before .before .before .before .before .before .before .loop in
-    let loop-test = c .before .before .before .before .before .before .before .loop-test in
-    let get = c .before .before .before .before .before .get in
-    (pre .reads, loop .inv .held, omega (arith, corner-in (pre .reads .board) (pre .valid) (loop .inv) (loop-test .taken) (get .ensures), pre .reads .shape .darts), pre .valid .events)
+    let l = c .before .before .before .before .before .loop .inv in
+    (c .before .before .before .before .before .before .before .before .before .before .before .before .before .before .before .before .before .before .before .before .pre .reads, l .held, omega (arith, corner-in (c .before .before .before .before .before .before .before .before .before .before .before .before .before .before .before .before .before .before .before .before .pre .reads .board) (c .before .before .before .before .before .before .before .before .before .before .before .before .before .before .before .before .before .before .before .before .pre .valid) (c .before .before .before .before .before .loop .inv) (c .before .before .before .before .loop-test .taken) (c .before .before .get .ensures), c .before .before .before .before .before .before .before .before .before .before .before .before .before .before .before .before .before .before .before .before .pre .reads .shape .darts), omega (arith, l .ranks, c .before .before .before .before .before .before .before .before .before .before .before .before .before .before .before .before .before .before .before .before .pre .valid .keys), c .before .before .before .before .before .before .before .before .before .before .before .before .before .before .before .before .before .before .before .before .pre .valid .events)
+
+sub-t18 : tie.Need-sub-t18 Inv-loop μ-loop
+sub-t18 c = omega (arith, c .before .before .before .before .before .touch .ensures .1 (c .if1 .taken) .some)
+
+sub-t27 : tie.Need-sub-t27 Inv-loop μ-loop
+sub-t27 c = omega (arith, c .before .before .before .before .before .scan .ensures .1 (c .if2 .taken) .some)
 
 add-h : tie.Need-add-h Inv-loop μ-loop
-add-h c = search needs
-
-loop-less : tie.Need-loop-less Inv-loop μ-loop
-loop-less c =
-    let loop = c .before .before .before .before .before .before .before .before .before .before .before .before .before .loop in
-    let pre = c .before .before .before .before .before .before .before .before .before .before .before .before .before .before .before .before .before .before .before .before .before .before .before .before .before .before .before .pre in
-    omega (arith, ends-few (loop .inv .held), pre .reads .board .faced .size, pre .reads .shape .darts)
-
-loop-again : tie.Need-loop-again Inv-loop μ-loop
-loop-again c =
-    let pre = c .before .before .before .before .before .before .before .before .before .before .before .before .before .before .before .before .before .before .before .before .before .before .before .before .before .before .before .pre in
-    let loop = c .before .before .before .before .before .before .before .before .before .before .before .before .before .loop in
-    let loop-test = c .before .before .before .before .before .before .before .before .before .before .before .before .loop-test in
-    let get = c .before .before .before .before .before .before .before .before .before .before .get in
-    let get2 = c .before .before .before .before .before .before .before .before .before .get2 in
-    let if1 = c .before .before .before .before .before .before .before .if1 in
-    let get3 = c .before .before .before .before .before .before .before .before .get3 in
-    let scan = c .before .before .before .before .scan in
-    search-step (pre .reads .board) (pre .valid) (loop .inv) (loop-test .taken) (get .ensures) (get2 .ensures) (omega (arith, if1 .left, get3 .ensures)) (scan .ensures)
+add-h c = omega (arith, ends-few (c .before .before .before .before .before .before .before .before .before .before .before .loop .inv .held), c .before .before .before .before .before .before .before .before .before .before .before .loop .inv .held .ranks, c .before .before .before .before .before .before .before .before .before .before .loop-test .taken, c .before .before .before .before .before .before .before .before .before .before .before .before .before .before .before .before .before .before .before .before .before .before .before .before .before .before .pre .reads .board .keyed .size, c .before .before .before .before .before .before .before .before .before .before .before .before .before .before .before .before .before .before .before .before .before .before .before .before .before .before .pre .reads .shape .darts, c .before .before .before .before .before .before .before .before .before .before .before .before .before .before .before .before .before .before .before .before .before .before .before .before .before .before .pre .reads .shape .few)
 
 same-length-3 : tie.Need-same-length-3 Inv-loop μ-loop
-same-length-3 c =
-    let loop = c .before .loop in
-    let pre = c .before .before .before .before .before .before .before .before .before .before .before .before .before .before .before .pre in
-    omega (arith, loop .inv .held .ranks, pre .fresh .ranks, pre .reads .board .faced .size)
+same-length-3 c = let R = c .before .before .before .before .before .scan .ensures .1 (c .if2 .taken) in R .grown .size ∙ c .before .before .before .before .before .before .before .before .before .before .before .loop .inv .ranks ∙ sym (c .before .before .before .before .before .before .before .before .before .before .before .before .before .before .before .before .before .before .before .before .before .before .before .before .before .before .pre .fresh .ranks)
 
 same-length-4 : tie.Need-same-length-4 Inv-loop μ-loop
-same-length-4 c =
-    let loop = c .before .loop in
-    let pre = c .before .before .before .before .before .before .before .before .before .before .before .before .before .before .before .pre in
-    omega (arith, loop .inv .held .vias, pre .fresh .vias, pre .reads .board .faced .size)
+same-length-4 c = let R = c .before .before .before .before .before .scan .ensures .1 (c .if2 .taken) in R .grown .held .vias ∙ R .grown .size ∙ c .before .before .before .before .before .before .before .before .before .before .before .loop .inv .ranks ∙ sym (c .before .before .before .before .before .before .before .before .before .before .before .before .before .before .before .before .before .before .before .before .before .before .before .before .before .before .pre .fresh .vias)
 
 returns-2 : tie.Need-returns-2 Inv-loop μ-loop
 returns-2 c =
-    let loop = c .before .loop in
-    let pre = c .before .before .before .before .before .before .before .before .before .before .before .before .before .before .before .pre in
-    let args = c .before .before .before .before .before .before .before .before .before .before .before .before .before .before .before .args in
+    let R = c .before .before .before .before .before .scan .ensures .1 (c .if2 .taken) in
     record {
-      held = loop .inv .held;
-      way = λ q. absurd (omega arith);
-      stuck = λ q. stuck (pre .reads .board) (pre .valid) (loop .inv) (search needs) (omega (arith, pre .reads .board .known (args .first) (omega (arith, pre .inside, pre .reads .shape .darts)), pre .own)) (omega (arith, pre .free, pre .reads .shape .darts));
+      held = R .grown .held;
+      ranks = R .grown .size ∙ c .before .before .before .before .before .before .before .before .before .before .before .loop .inv .ranks;
+      way = λ q. way-step (c .before .before .before .before .before .before .before .before .before .before .before .before .before .before .before .before .before .before .before .before .before .before .before .before .before .before .pre .reads .board) (c .before .before .before .before .before .before .before .before .before .before .before .before .before .before .before .before .before .before .before .before .before .before .before .before .before .before .pre .valid) (c .before .before .before .before .before .before .before .before .before .before .before .loop .inv) (c .before .before .before .before .before .before .before .before .before .before .loop-test .taken) (c .before .before .before .before .before .before .before .before .get .ensures) R;
+      stuck = λ q. absurd (omega (arith, ends-few (R .grown .held), R .grown .held .ranks, c .before .before .before .before .before .before .before .before .before .before .before .before .before .before .before .before .before .before .before .before .before .before .before .before .before .before .pre .reads .board .keyed .size, c .before .before .before .before .before .before .before .before .before .before .before .before .before .before .before .before .before .before .before .before .before .before .before .before .before .before .pre .reads .shape .darts, c .before .before .before .before .before .before .before .before .before .before .before .before .before .before .before .before .before .before .before .before .before .before .before .before .before .before .pre .reads .shape .few));
     }
+
+loop-less : tie.Need-loop-less Inv-loop μ-loop
+loop-less c = omega (arith, ends-few (c .before .before .before .before .before .before .before .before .before .before .before .loop .inv .held), c .before .before .before .before .before .before .before .before .before .before .before .loop .inv .held .ranks, c .before .before .before .before .before .before .before .before .before .before .loop-test .taken, c .before .before .before .before .before .before .before .before .before .before .before .before .before .before .before .before .before .before .before .before .before .before .before .before .before .before .pre .reads .board .keyed .size, c .before .before .before .before .before .before .before .before .before .before .before .before .before .before .before .before .before .before .before .before .before .before .before .before .before .before .pre .reads .shape .darts, c .before .before .before .before .before .before .before .before .before .before .before .before .before .before .before .before .before .before .before .before .before .before .before .before .before .before .pre .reads .shape .few)
+
+loop-again : tie.Need-loop-again Inv-loop μ-loop
+loop-again c = search-step (c .before .before .before .before .before .before .before .before .before .before .before .before .before .before .before .before .before .before .before .before .before .before .before .before .before .before .pre .reads .board) (c .before .before .before .before .before .before .before .before .before .before .before .before .before .before .before .before .before .before .before .before .before .before .before .before .before .before .pre .valid) (c .before .before .before .before .before .before .before .before .before .before .before .loop .inv) (c .before .before .before .before .before .before .before .before .before .before .loop-test .taken) (c .before .before .before .before .before .before .before .before .get .ensures) (c .before .before .before .before .before .scan .ensures .0 (omega (arith, c .if2 .left)))
+
+same-length-5 : tie.Need-same-length-5 Inv-loop μ-loop
+same-length-5 c = c .before .loop .inv .ranks ∙ sym (c .before .before .before .before .before .before .before .before .before .before .before .before .before .before .before .before .pre .fresh .ranks)
+
+same-length-6 : tie.Need-same-length-6 Inv-loop μ-loop
+same-length-6 c = c .before .loop .inv .held .vias ∙ c .before .loop .inv .ranks ∙ sym (c .before .before .before .before .before .before .before .before .before .before .before .before .before .before .before .before .pre .fresh .vias)
+
+returns-3 : tie.Need-returns-3 Inv-loop μ-loop
+returns-3 c =
+    record {
+      held = c .before .loop .inv .held;
+      ranks = c .before .loop .inv .ranks;
+      way = λ q. absurd (omega arith);
+      stuck = λ q. stuck (c .before .before .before .before .before .before .before .before .before .before .before .before .before .before .before .before .pre .reads .board) (c .before .before .before .before .before .before .before .before .before .before .before .before .before .before .before .before .pre .valid) (c .before .loop .inv) (c .loop-test .left) (omega (arith, c .before .before .before .before .before .before .before .before .before .before .before .before .before .before .before .before .pre .reads .board .known (c .before .before .before .before .before .before .before .before .before .before .before .before .before .before .before .before .args .first) (omega (arith, c .before .before .before .before .before .before .before .before .before .before .before .before .before .before .before .before .pre .inside, c .before .before .before .before .before .before .before .before .before .before .before .before .before .before .before .before .pre .reads .shape .darts)), c .before .before .before .before .before .before .before .before .before .before .before .before .before .before .before .before .pre .own)) (omega (arith, c .before .before .before .before .before .before .before .before .before .before .before .before .before .before .before .before .pre .free, c .before .before .before .before .before .before .before .before .before .before .before .before .before .before .before .before .pre .reads .shape .darts));
+    }
+
+same-length : tie.Need-same-length Inv-loop μ-loop
+same-length c = search needs
+
+same-length-2 : tie.Need-same-length-2 Inv-loop μ-loop
+same-length-2 c = search needs
 
 pub search-spec : {M : Type 1} → statement M
 search-spec =
@@ -136,17 +108,20 @@ search-spec =
     Inv-loop
     μ-loop
     touch-requires
-    loop-holds
-    get-requires
-    get-requires-2
-    get-requires-3
+    sub-t18
     same-length
     same-length-2
     returns
+    loop-holds
+    get-requires
     scan-requires
+    sub-t27
+    same-length-3
+    same-length-4
+    returns-2
     add-h
     loop-less
     loop-again
-    same-length-3
-    same-length-4
-    returns-2)
+    same-length-5
+    same-length-6
+    returns-3)

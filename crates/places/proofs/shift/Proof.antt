@@ -34,7 +34,7 @@ get-requires-2 c κs =
     let loop = c .before .before .loop in
     let get = c .before .get in
     let pre = c .before .before .before .before .before .before .before .before .before .pre in
-    omega (arith, corner-in (loop .inv) (get .ensures), pre .reads .board .faced .size)
+    omega (arith, corner-in (loop .inv) (get .ensures), pre .reads .board .keyed .size)
 
 get-requires-3 : tie.Need-get-requires-3 Inv-loop μ-loop
 get-requires-3 c κs =
@@ -59,7 +59,7 @@ get-requires-4 c κs =
     let get = c .before .before .before .before .before .before .before .before .before .get in
     let event-of = c .before .before .before .before .before .before .before .before .event-of in
     let get2 = c .before .before .before .before .before .before .before .get2 in
-    omega (arith, face-in (seat (loop .inv) (get .ensures) (event-of .ensures) (get2 .ensures)), loop .inv .valid .faces)
+    omega (arith, face-in (seat (loop .inv) (get .ensures) (event-of .ensures) (get2 .ensures)), loop .inv .valid .keys)
 
 sub-put : tie.Need-sub-put Inv-loop μ-loop
 sub-put c =
@@ -79,7 +79,7 @@ put-requires-2 c κs =
     let get4 = c .before .get4 in
     let pre = c .before .before .before .before .before .before .before .before .before .before .before .before .before .before .before .before .before .before .before .pre in
     let inside = face-in (seat (loop .inv) (get .ensures) (event-of .ensures) (get2 .ensures)) in
-    (omega (arith, inside, loop .inv .valid .faces), omega (arith, get4 .ensures, spare-few (loop .inv) (get2 .result) inside, pre .few (get2 .result) (omega (arith, inside, pre .reads .shape .darts))))
+    (omega (arith, inside, loop .inv .valid .keys), omega (arith, get4 .ensures, spare-few (loop .inv) (get2 .result) inside, pre .few (get2 .result) inside))
 
 same-length : tie.Need-same-length Inv-loop μ-loop
 same-length c = search needs
@@ -108,7 +108,7 @@ get-requires-5 c κs =
     let if1 = c .if1 in
     let get3 = c .before .before .before .before .before .before .before .before .before .before .before .get3 in
     let pre = c .before .before .before .before .before .before .before .before .before .before .before .before .before .before .before .before .before .before .before .before .before .before .before .pre in
-    omega (arith, old-in (loop .inv) (get .ensures) (event-of .ensures) (get2 .ensures) (if1 .left) (get3 .ensures), pre .reads .board .faced .size)
+    omega (arith, old-in (loop .inv) (get .ensures) (event-of .ensures) (get2 .ensures) (if1 .left) (get3 .ensures), pre .reads .board .keyed .size)
 
 get-requires-6 : tie.Need-get-requires-6 Inv-loop μ-loop
 get-requires-6 c κs =
@@ -136,7 +136,7 @@ add-put c =
     let get4 = c .before .before .before .before .before .before .before .before .before .get4 in
     let put2 = c .before .before .before .before .before .before .before .put2 in
     let pre = c .before .before .before .before .before .before .before .before .before .before .before .before .before .before .before .before .before .before .before .before .before .before .before .before .before .before .before .pre in
-    omega (arith, get6 .ensures, old-few (loop .inv) (get .ensures) (event-of .ensures) (get2 .ensures) (if1 .left) (get3 .ensures) (get5 .ensures) (get4 .ensures) (put2 .ensures), pre .few (get5 .result) (omega (arith, old-face (loop .inv) (get .ensures) (event-of .ensures) (get2 .ensures) (if1 .left) (get3 .ensures) (get5 .ensures), pre .reads .shape .darts)))
+    omega (arith, get6 .ensures, old-few (loop .inv) (get .ensures) (event-of .ensures) (get2 .ensures) (if1 .left) (get3 .ensures) (get5 .ensures) (get4 .ensures) (put2 .ensures), pre .few (get5 .result) (old-face (loop .inv) (get .ensures) (event-of .ensures) (get2 .ensures) (if1 .left) (get3 .ensures) (get5 .ensures)))
 
 put-requires-3 : tie.Need-put-requires-3 Inv-loop μ-loop
 put-requires-3 c κs =
@@ -151,7 +151,7 @@ put-requires-3 c κs =
     let put2 = c .before .before .before .before .before .before .before .put2 in
     let get6 = c .before .get6 in
     let pre = c .before .before .before .before .before .before .before .before .before .before .before .before .before .before .before .before .before .before .before .before .before .before .before .before .before .before .before .pre in
-    (old-size (loop .inv) (get .ensures) (event-of .ensures) (get2 .ensures) (if1 .left) (get3 .ensures) (get5 .ensures) (get4 .ensures) (put2 .ensures), omega (arith, get6 .ensures, old-few (loop .inv) (get .ensures) (event-of .ensures) (get2 .ensures) (if1 .left) (get3 .ensures) (get5 .ensures) (get4 .ensures) (put2 .ensures), pre .few (get5 .result) (omega (arith, old-face (loop .inv) (get .ensures) (event-of .ensures) (get2 .ensures) (if1 .left) (get3 .ensures) (get5 .ensures), pre .reads .shape .darts))))
+    (old-size (loop .inv) (get .ensures) (event-of .ensures) (get2 .ensures) (if1 .left) (get3 .ensures) (get5 .ensures) (get4 .ensures) (put2 .ensures), omega (arith, get6 .ensures, old-few (loop .inv) (get .ensures) (event-of .ensures) (get2 .ensures) (if1 .left) (get3 .ensures) (get5 .ensures) (get4 .ensures) (put2 .ensures), pre .few (get5 .result) (old-face (loop .inv) (get .ensures) (event-of .ensures) (get2 .ensures) (if1 .left) (get3 .ensures) (get5 .ensures))))
 
 get-requires-7 : tie.Need-get-requires-7 Inv-loop μ-loop
 get-requires-7 c κs =
@@ -163,7 +163,7 @@ get-requires-7 c κs =
     let get3 = c .before .before .before .before .before .before .before .before .before .before .before .before .before .before .before .before .before .before .get3 in
     let get5 = c .before .before .before .before .before .before .get5 in
     let pre = c .before .before .before .before .before .before .before .before .before .before .before .before .before .before .before .before .before .before .before .before .before .before .before .before .before .before .before .before .before .before .pre in
-    omega (arith, old-face (loop .inv) (get .ensures) (event-of .ensures) (get2 .ensures) (if1 .left) (get3 .ensures) (get5 .ensures), loop .inv .way .held .ranks, pre .reads .board .faced .size)
+    omega (arith, get5 .ensures, loop .inv .way .held .into (get3 .result) (omega (arith, old-in (loop .inv) (get .ensures) (event-of .ensures) (get2 .ensures) (if1 .left) (get3 .ensures), pre .reads .board .keyed .size)))
 
 sub-i : tie.Need-sub-i Inv-loop μ-loop
 sub-i c =

@@ -17,7 +17,7 @@ put-requires c κs =
 get-requires-2 : tie.Need-get-requires-2
 get-requires-2 c κs =
     let pre = c .before .before .before .before .before .before .before .before .before .before .pre in
-    omega (arith, face-in (sits-seat pre (c .before .before .before .before .before .get .ensures)), pre .valid .faces)
+    omega (arith, face-in (sits-seat pre (c .before .before .before .before .before .get .ensures)), pre .valid .keys)
 
 sub-put : tie.Need-sub-put
 sub-put c =
@@ -29,7 +29,7 @@ put-requires-2 c κs =
     let pre = c .before .before .before .before .before .before .before .before .before .before .before .before .pre in
     let get = c .before .before .before .before .before .before .before .get in
     let inside = face-in (sits-seat pre (get .ensures)) in
-    (omega (arith, inside, pre .valid .faces), omega (arith, c .before .get2 .ensures, pre .few (get .result) (omega (arith, inside, pre .reads .shape .darts))))
+    (omega (arith, inside, pre .valid .keys), omega (arith, c .before .get2 .ensures, pre .few (get .result) inside))
 
 same-length : tie.Need-same-length
 same-length c = search needs

@@ -3,20 +3,20 @@ use Prim.Native.Nat.{_-_, _≤_}
 use lib.ListN.{length}
 use native.Mathlib.Omega.{arith}
 use borrow.Author.Needs.{needs}
-use Rattle.drawing.proofs.Counted.{Counted, counted-none}
+use Rattle.drawing.proofs.Counted.{Tally, tally-none}
 use Rattle.rules.specs.Chart.{drawing}
 use Rattle.rings.proofs.Laws.{all-counted}
 use Rattle.rings.proofs.follow_all.Statement.{statement}
 use Rattle.rings.proofs.follow_all.Tie as tie
 
 abbrev Inv-loop : tie.InvT-loop
-Inv-loop chart n first met₀ v₀ met v = (v ≤ length first) × (met ≤ n) × Counted (drawing chart) v met
+Inv-loop chart n first met₀ v₀ met v = (v ≤ length first) × (met ≤ n) × Tally (drawing chart) (λ i. i) v met
 
 abbrev μ-loop : tie.MeasureT-loop
 μ-loop chart n first met₀ v₀ met v = length first - v
 
 loop-holds : tie.Need-loop-holds Inv-loop μ-loop
-loop-holds c = (search needs, search needs, counted-none _)
+loop-holds c = (search needs, search needs, tally-none _ _)
 
 follow-requires : tie.Need-follow-requires Inv-loop μ-loop
 follow-requires c κs = search needs

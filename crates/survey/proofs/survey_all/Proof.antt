@@ -1,4 +1,5 @@
 -- `survey::survey_all` meets its contract: tests 9 to 11, then 12 and 13. Assumes nothing.
+use mathlib.Core.Path.{_≡_, _∙_}
 use native.Mathlib.Omega.{arith}
 use borrow.Author.Needs.{needs}
 use Rattle.rules.proofs.Chain.{given-left, given-append}
@@ -19,25 +20,27 @@ same-length-2 c = search needs
 same-length-3 : tie.Need-same-length-3
 same-length-3 c = search needs
 
+same-length-4 : tie.Need-same-length-4
+same-length-4 c = search needs
+
 returns : tie.Need-returns
 returns c =
-    let R = c .before .before .before .before .before .before .before .ring-fault .ensures in
+    let R = c .before .before .before .before .before .before .before .before .before .ring-fault .ensures in
     let small = ring-small _ _ (R .given) in
     record {
       given = given-left ringTests climbTests _ 0 _ (λ e. omega (arith, c .if1 .taken)) (R .given);
-      faced = λ e. absurd (omega (arith, c .if1 .taken));
+      keyed = λ e. absurd (omega (arith, c .if1 .taken));
+      switched = λ e. absurd (omega (arith, c .if1 .taken));
       firsts = λ e. absurd (omega (arith, c .if1 .taken));
       evidence = λ l. absurd (omega (arith, small));
     }
 
 climb-fault-requires : tie.Need-climb-fault-requires
 climb-fault-requires c κs =
-    let p = c .before .before .before .before .before .before .before .before .before .before .before .before .before .before .before .before .before .pre in
-    let R = c .before .before .before .before .before .before .before .before .before .ring-fault .ensures in
-    (p .0, (past-rings _ (zero-ring _ _ (omega (arith, c .before .before .if1 .left)) (R .given)), (search needs, search needs)))
-
-same-length-4 : tie.Need-same-length-4
-same-length-4 c = search needs
+    let p = c .before .before .before .before .before .before .before .before .before .before .before .before .before .before .before .before .before .before .before .before .before .before .before .pre in
+    let R = c .before .before .before .before .before .before .before .before .before .before .before .before .ring-fault in
+    let z : R .result ≡ 0 = omega (arith, c .before .before .before .if1 .left) in
+    (p .0, (past-rings _ (zero-ring _ _ z (R .ensures .given)), (R .ensures .firsts z, (c .before .before .before .before .before .list .given ∙ p .1 .room, p .2))))
 
 same-length-5 : tie.Need-same-length-5
 same-length-5 c = search needs
@@ -45,14 +48,25 @@ same-length-5 c = search needs
 same-length-6 : tie.Need-same-length-6
 same-length-6 c = search needs
 
+same-length-7 : tie.Need-same-length-7
+same-length-7 c = search needs
+
+same-length-8 : tie.Need-same-length-8
+same-length-8 c = search needs
+
+same-length-9 : tie.Need-same-length-9
+same-length-9 c = search needs
+
 returns-2 : tie.Need-returns-2
 returns-2 c =
-    let R = c .before .before .before .before .before .before .before .before .before .before .before .before .before .before .ring-fault .ensures in
+    let R = c .before .before .before .before .before .before .before .before .before .before .before .before .before .before .before .before .before .ring-fault in
+    let z : R .result ≡ 0 = omega (arith, c .before .before .before .before .before .before .before .before .if1 .left) in
     let K = c .before .before .before .before .climb-fault .ensures in
     record {
-      given = given-append ringTests climbTests _ 0 _ (zero-ring _ _ (omega (arith, c .before .before .before .before .before .before .before .if1 .left)) (R .given)) (K .given);
-      faced = λ e. R .faced (omega (arith, c .before .before .before .before .before .before .before .if1 .left));
-      firsts = λ e. K .firsts;
+      given = given-append ringTests climbTests _ 0 _ (zero-ring _ _ z (R .ensures .given)) (K .given);
+      keyed = λ e. R .ensures .keyed z;
+      switched = λ e. R .ensures .switched z;
+      firsts = λ e. R .ensures .firsts z;
       evidence = K .evidence;
     }
 
@@ -64,9 +78,12 @@ survey-all-spec =
     same-length
     same-length-2
     same-length-3
+    same-length-4
     returns
     climb-fault-requires
-    same-length-4
     same-length-5
     same-length-6
+    same-length-7
+    same-length-8
+    same-length-9
     returns-2)
