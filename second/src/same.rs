@@ -1,10 +1,11 @@
 //! The test once more, by the library's own algorithm in ordinary Rust: what the library's time is measured against.
 //!
-//! Whatever spares the library time is done here too. The charts' tables are read in place; one walk round the rings
-//! answers tests 9 and 10 and leaves a dart of each event; one walk round the faces numbers them and counts their
-//! switch corners; everyone sits who touches a face with room before anyone is searched for; a search stops at the
-//! first face with room and clears only what it listed. All else lies in arrays, of one of three sizes, so that a small
-//! chart clears small ones.
+//! Whatever spares the library time is done here too. The charts' tables are read in place; one pass answers tests 6
+//! and 7; one walk round the rings answers tests 9 and 10 and leaves a dart of each event, and where it does not meet all
+//! only the others' rings are followed besides; one walk round the faces numbers them and counts their switch corners;
+//! everyone sits who touches a face with room before anyone is searched for; a search stops at the first face with room
+//! and clears only what it listed. All else lies in arrays, of one of three sizes, so that a small chart clears small
+//! ones; those of the later tests are made after test 10.
 
 use std::ops::ControlFlow::{self, Break, Continue};
 
@@ -107,11 +108,15 @@ fn open(chart: &[u8]) -> Result<Tables<'_>, u16> {
     }
     let darts = 2 * arrows;
     let (at, next) = chart[HEADER..].as_chunks::<2>().0.split_at(darts);
-    if at.iter().any(|&event| number(event) >= events) {
-        return Err(6);
-    }
-    if at.as_chunks::<2>().0.iter().any(|[tail, head]| tail == head) {
-        return Err(7);
+    let unknown = |event: &[u8; 2]| number(*event) >= events;
+    for [tail, head] in at.as_chunks::<2>().0 {
+        if unknown(tail) || unknown(head) {
+            return Err(6);
+        }
+        if tail == head {
+            // Test 6 comes first.
+            return Err(if at.iter().any(unknown) { 6 } else { 7 });
+        }
     }
     if outer >= darts {
         return Err(8);
@@ -204,19 +209,20 @@ fn walk_rings<const E: usize>(tables: &Tables, first: &mut [u16; E], queue: &mut
     }
     // Where a ring of every event was followed and darts are left, some event has another.
     if left > 0 {
-        return Err(if length < tables.events && follow_all(tables, first) { 10 } else { 9 });
+        return Err(if length < tables.events && follow_rest(tables, first, queue, left) { 10 } else { 9 });
     }
     if length < tables.events { Err(10) } else { Ok(()) }
 }
 
-/// Test 9 where the walk from dart 0 doesn't meet all darts: whether each event's darts are one ring.
+/// Test 9 where the walk from dart 0 doesn't meet all events: whether each of the others' darts are one ring, and these
+/// make up the darts left.
 #[cold]
-fn follow_all<const E: usize>(tables: &Tables, first: &mut [u16; E]) -> bool {
+fn follow_rest<const E: usize>(tables: &Tables, first: &[u16; E], some: &mut [u16; E], mut left: usize) -> bool {
+    some.fill(NONE);
     for dart in 0..tables.darts {
-        first[tables.at(dart)] = dart as u16;
+        some[tables.at(dart)] = dart as u16;
     }
-    let mut left = tables.darts;
-    for &start in first.iter().filter(|&&start| start != NONE) {
+    for (_, &start) in first.iter().zip(&*some).filter(|&(&mark, &start)| mark == NONE && start != NONE) {
         let mut dart = usize::from(start);
         loop {
             if left == 0 {
@@ -360,9 +366,13 @@ fn make_rooms(spare: &mut [u16], outer: usize) {
 
 /// Which events are sources or sinks: those where the darts don't have both directions.
 fn poles<const E: usize>(tables: &Tables) -> [bool; E] {
+    // First all tails and then all heads: a tail's flag is stored without a look at what was there.
     let mut flags = [0u8; E];
-    for [tail, head] in tables.at.as_chunks::<2>().0 {
-        flags[number(*tail)] |= 1;
+    let arrows = tables.at.as_chunks::<2>().0;
+    for [tail, _] in arrows {
+        flags[number(*tail)] = 1;
+    }
+    for [_, head] in arrows {
         flags[number(*head)] |= 2;
     }
     flags.map(|flags| flags != 3)

@@ -4,11 +4,11 @@ ghost use Prim.Native.Nat.{_*_, _<_, _≤_};
 ghost use lib.ListN.{length};
 ghost use Rattle.finite.specs.Says.{Says};
 ghost use Rattle.drawing.specs.Drawing.{event, after};
-ghost use Rattle.drawing.specs.Conditions.{EventsKnown, NoOwnArrow};
+ghost use Rattle.drawing.specs.Conditions.{EventsKnown};
 ghost use Rattle.rules.specs.Chart.{drawing, arrowsIn};
 ghost use Rattle.rules.specs.Tests.{Passes, Given, mark, counts, size as sizeTest};
 ghost use Rattle.chart.specs.Shape.{Shape};
-ghost use Rattle.chart.specs.Form.{headerTests, tableTests, formTests};
+ghost use Rattle.chart.specs.Form.{headerTests, endTests, tableTests, formTests};
 
 // The event of dart d of a chart with n darts.
 pub fn event_of(chart: &[u8], n: usize, d: usize) -> usize
@@ -138,19 +138,31 @@ fn events_known(chart: &[u8], n: usize, v: usize) -> bool
     true
 }
 
-// Whether no arrow of the n / 2 has one event as tail and head.
-fn no_own_arrow(chart: &[u8], n: usize) -> bool
-    requires { ⌜ Shape (now chart) n ⌝ }
-    ensures { λ r. ⌜ Says r (NoOwnArrow (drawing (now (chart .entry)))) ⌝ }
+// The number 6 or 7 of the first of these two tests that the chart fails, or 0. Both darts of an arrow in one turn. Test 6 comes first: where an arrow
+// of one event is met, the events behind it are looked at too.
+fn ends_fault(chart: &[u8], n: usize, v: usize) -> usize
+    requires { ⌜ Shape (now chart) n × (v ≡ drawing (now chart) .events) ⌝ }
+    ensures { λ r. ⌜ Given endTests (now (chart .entry)) 0 r ⌝ }
 {
-    let mut a = 0;
-    while a < n / 2 {
-        if event_of(chart, n, 2 * a) == event_of(chart, n, 2 * a + 1) {
-            return false;
+    let mut d = 0;
+    while d < n {
+        let t = event_of(chart, n, d);
+        if v <= t {
+            return 6;
         }
-        a += 1;
+        let h = event_of(chart, n, d + 1);
+        if v <= h {
+            return 6;
+        }
+        if t == h {
+            if !events_known(chart, n, v) {
+                return 6;
+            }
+            return 7;
+        }
+        d += 2;
     }
-    true
+    0
 }
 
 fn table_fault(chart: &[u8]) -> usize
@@ -158,11 +170,9 @@ fn table_fault(chart: &[u8]) -> usize
     ensures { λ r. ⌜ Given tableTests (now (chart .entry)) 0 r ⌝ }
 {
     let n = dart_count(chart);
-    if !events_known(chart, n, event_count(chart)) {
-        return 6;
-    }
-    if !no_own_arrow(chart, n) {
-        return 7;
+    let fault = ends_fault(chart, n, event_count(chart));
+    if 1 <= fault {
+        return fault;
     }
     if n <= outer_dart(chart) {
         return 8;

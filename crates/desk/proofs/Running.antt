@@ -1,57 +1,32 @@
--- Runs of the tests one after the other. Assumes nothing.
-use mathlib.Core.Path.{_≡_, refl, sym, ap}
+-- The tests of the form and of the drawing make the outcome. Assumes nothing.
+use mathlib.Core.Path.{_≡_, refl}
 use mathlib.Core.Logic.{_≢_, inl, inr}
 use mathlib.Core.List.{List, [], _∷_, _++_}
 use Prim.Native.Nat.{ℕ, _≤_, _<_}
 use native.Mathlib.Omega.{arith}
-use borrow.Author.Tests.{ne-eqb}
 use lib.ListN.{length}
-use Rattle.drawing.specs.Drawing.{Drawing}
-use Rattle.rules.specs.Chart.{drawing}
-use Rattle.rules.specs.Tests.{Test, short, tests, reportRoom, Given}
-use Rattle.rules.specs.Report.{Entries, report, Run, Outcome}
-use Rattle.rules.proofs.Chain.{given-append, given-left, given-highest}
-use Rattle.report.proofs.Laws.{writes-none}
+use Rattle.rules.specs.Tests.{short, tests, reportRoom, Given}
+use Rattle.rules.specs.Report.{Run, Outcome}
+use Rattle.rules.proofs.Chain.{given-highest}
 use Rattle.chart.specs.Form.{formTests}
-use Rattle.survey.specs.Past.{surveyTests}
+use Rattle.survey.specs.Past.{orderTests}
+use Rattle.survey.proofs.Passing.{order-small, at-zero}
+use Rattle.findings.specs.Stretch.{pastTests}
+use Rattle.findings.proofs.Running.{silent-run, run-as, run-before, run-after}
 use Rattle.desk.specs.Stretch.{drawnTests}
 
--- the survey gives no number above 13
-pub survey-small : (s : List ℕ) (r : ℕ) → Given surveyTests s 0 r → r ≤ 13
-survey-small s r g = given-highest surveyTests s 0 r g
-
--- nor the tests of the form one above 8
+-- the tests of the form give no number above 8
 pub form-small : (s : List ℕ) (r : ℕ) → Given formTests s 0 r → r ≤ 8
 form-small s r g = given-highest formTests s 0 r g
 
-no-entries : (g : Drawing) (n : ℕ) → n ≢ 0 → n < 12 → Entries g n []
-no-entries g n z l = simp (ne-eqb n 0 z, ne-eqb n 12 (λ e. omega arith), ne-eqb n 13 (λ e. omega arith), ne-eqb n 14 (λ e. omega arith)) refl
+-- a fault of tests 9 and 10 writes nothing
+pub order-run : (s b : List ℕ) (n : ℕ) → n ≢ 0 → Given orderTests s 0 n → Run drawnTests s b n 0 b
+order-run s b n some g =
+    run-before orderTests pastTests s b n 0 b some (silent-run orderTests s b n g some (omega (arith, order-small s n g)))
 
-no-report : (n : ℕ) → n ≢ 0 → n < 12 → report n [] ≡ []
-unfolding report
-no-report n z l = simp (writes-none n z l)
-
--- the numbers 1 to 11 write nothing
-pub silent-run : (ts : List Test) (s b : List ℕ) (n : ℕ) → Given ts s (length b) n → n ≢ 0 → n < 12 → Run ts s b n 0 b
-silent-run ts s b n g z l = record {
-  given = g;
-  entries = [];
-  allowed = no-entries (drawing s) n z l;
-  written = sym (ap length (no-report n z l));
-  left = sym (ap (λ (x : List ℕ). x ++ b) (no-report n z l));
-}
-
--- what other tests give and write, where they give the same number
-run-as : {ts : List Test} (us : List Test) (s b : List ℕ) (n w : ℕ) (b′ : List ℕ) → Given us s (length b) n → Run ts s b n w b′ → Run us s b n w b′
-run-as us s b n w b′ g R = record { given = g; entries = R .entries; allowed = R .allowed; written = R .written; left = R .left }
-
--- later tests, where the earlier ones find nothing
-pub run-after : (ts us : List Test) (s b : List ℕ) (n w : ℕ) (b′ : List ℕ) → Given ts s (length b) 0 → Run us s b n w b′ → Run (ts ++ us) s b n w b′
-run-after ts us s b n w b′ g R = run-as (ts ++ us) s b n w b′ (given-append ts us s (length b) n g (R .given)) R
-
--- a fault of the earlier tests
-pub run-before : (ts us : List Test) (s b : List ℕ) (n w : ℕ) (b′ : List ℕ) → n ≢ 0 → Run ts s b n w b′ → Run (ts ++ us) s b n w b′
-run-before ts us s b n w b′ z R = run-as (ts ++ us) s b n w b′ (given-left ts us s (length b) n z (R .given)) R
+-- and without one the later tests run
+pub past-run : (s b : List ℕ) (r n w : ℕ) (b′ : List ℕ) → r ≡ 0 → Given orderTests s 0 r → Run pastTests s b n w b′ → Run drawnTests s b n w b′
+past-run s b r n w b′ z g R = run-after orderTests pastTests s b n w b′ (at-zero orderTests s r z g) R
 
 -- with report room enough, the tests 2 to 14 give the outcome
 pub room-outcome : (s b : List ℕ) (n w : ℕ) (b′ : List ℕ) → reportRoom ≤ length b → Run (formTests ++ drawnTests) s b n w b′ → Outcome s b n w b′

@@ -1,11 +1,9 @@
--- The tests that a part of the desk runs, in order. Assumes nothing.
---   lastTests, drawnTests      test 14; tests 9 to 14
-use mathlib.Core.List.{List, [], _∷_, _++_}
-use Rattle.rules.specs.Tests.{Test, noRoom}
-use Rattle.survey.specs.Past.{surveyTests}
-
-abbrev pub lastTests : List Test
-lastTests = noRoom ∷ []
+-- The tests that the desk runs on its tables, in order. Assumes nothing.
+--   drawnTests      tests 9 to 14
+use mathlib.Core.List.{List, _++_}
+use Rattle.rules.specs.Tests.{Test}
+use Rattle.survey.specs.Past.{orderTests}
+use Rattle.findings.specs.Stretch.{pastTests}
 
 abbrev pub drawnTests : List Test
-drawnTests = surveyTests ++ lastTests
+drawnTests = orderTests ++ pastTests

@@ -7,7 +7,7 @@
 --                       only if each of these is one ring, and as many if every event is
 --   Turns g x k         the k events x 0, x 1 .. are events of g, each once
 use mathlib.Core.Path.{_≡_, refl, sym, ap, _∙_}
-use mathlib.Core.Logic.{_≢_, _↔_}
+use mathlib.Core.Logic.{_≢_}
 use Prim.Native.Nat.{ℕ, suc, _+_, _-_, _*_, _<_, _≤_}
 use native.Mathlib.Decide.{ℕ-discrete, decLe}
 use native.Mathlib.Numerals.{add-one}
@@ -217,10 +217,3 @@ module _ (g : Drawing) (x : ℕ → ℕ) (k met : ℕ) (I : Tally g x k met) whe
         let t = along-all k (g .events) x (around g) (T .0) (T .1) all (event g d) (E d h) (class-term (darts g) (event g) (λ c. 1) d h) in
         I .whole (omega (arith, all, around-total g E)) (t .0) (t .1) d e h i (sym (t .2)) (sym (t .2 ∙ r));
   }
-
--- one ring followed at each event: all darts are met exactly if each event's darts are one ring
-pub rings-counted : (g : Drawing) → Kept g → EventsKnown g → (met : ℕ) → Tally g (λ v. v) (g .events) met → (met ≡ darts g) ↔ Rings g
-rings-counted g K E met I = (
-  rings-whole g (λ v. v) (g .events) met I K E (λ v l. l, λ u v l h q. q),
-  λ R. I .exact R ∙ around-total g E,
-)

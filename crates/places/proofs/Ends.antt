@@ -18,7 +18,8 @@ use Rattle.placing.proofs.Settles.{sofar-own, all-as, crowd-as}
 use Rattle.placing.proofs.Labelled.{is-labelling}
 use Rattle.placing.proofs.Writes.{is-cut}
 use Rattle.places.specs.Found.{Ready, Found}
-use Rattle.places.specs.Steps.{Reads, Begin, Left, Rest, Labels}
+use Rattle.search.specs.Steps.{Reads}
+use Rattle.places.specs.Steps.{Begin, Left, Rest, Labels}
 
 module _ {s : List ℕ} {n : ℕ} {here poles first spare : List ℕ} (Z : Shape s n) (Y : Ready (drawing s) here poles first spare) where
   bits : (v : ℕ) → v < drawing s .events → nth poles v ≤ 1

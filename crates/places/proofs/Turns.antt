@@ -1,14 +1,14 @@
 -- The events in turn, twice: all sit who can, then each who is left is searched for. Assumes nothing.
 --   Going       the first pass at event e: the poles below w are placed, and nobody from e on
 --   Searching   the second: the poles below e are placed, and nothing is listed between two searches
-use mathlib.Core.Path.{_≡_, subst}
+use mathlib.Core.Path.{_≡_, ap, _∙_, subst}
 use mathlib.Core.Logic.{_≢_, _⊎_, ⊎-elim}
 use mathlib.Core.List.{List}
 use Prim.Native.Nat.{ℕ, _+_, _≤_, _<_}
 use native.Mathlib.Decide.{ℕ-discrete}
 use native.Mathlib.Omega.{arith}
 use lib.ListN.{length}
-use Rattle.drawing.specs.Drawing.{Drawing, darts, faces}
+use Rattle.drawing.specs.Drawing.{Drawing, darts, event, faces}
 use Rattle.finite.proofs.Sum.{sum-mono, sum-const}
 use Rattle.rules.specs.Chart.{drawing}
 use Rattle.words.specs.Tables.{nth}
@@ -17,7 +17,8 @@ use Rattle.chart.proofs.Keys.{faces-few}
 use Rattle.placing.specs.Board.{hold}
 use Rattle.placing.specs.Search.{member, Sofar, Listing}
 use Rattle.placing.proofs.Settles.{settle-start, settle-done, settle-skip, settle-kept, settle-more, settle-add, settle-poles, settle-crowd}
-use Rattle.places.specs.Steps.{Reads, Fresh, Turn, Seated, Upto, Begin, Late, Housed, Left, Settled, Rest}
+use Rattle.search.specs.Steps.{Reads, Fresh, Near, Sits}
+use Rattle.places.specs.Steps.{Turn, Seated, Upto, Begin, Late, Housed, Left, Settled, Rest}
 
 -- ---- the first pass
 
@@ -37,6 +38,18 @@ going-start {poles = poles} {L = L} {sp} B = record {
   few = B .few;
   sofar = settle-start (nth poles) (B .reads .board) L sp (B .events) (B .keys) (B .nobody);
   later = λ v l k. B .nobody v l;
+}
+
+-- a corner near whose face has room is a place for the event
+pub near-sits : {s : List ℕ} {n : ℕ} {here poles firsts L sp : List ℕ} {e first c : ℕ} → Turn s n here poles firsts L sp e → first ≡ nth firsts e → Near (drawing s) here sp first c → c < 65535 → Sits s n here L sp e c
+near-sits {s} {e = e} T q N l = record {
+  reads = T .reads;
+  valid = T .valid;
+  few = T .few;
+  inside = omega (arith, N .inside l, T .reads .shape .darts);
+  own = N .own l ∙ ap (event (drawing s)) q ∙ T .firsts .each e (T .inside);
+  room = N .room l;
+  free = T .free;
 }
 
 module _ {s : List ℕ} {n : ℕ} {here poles first room L sp : List ℕ} {w e : ℕ} (G : Going s n here poles first room L sp w e) (l : e < length poles) where

@@ -3,11 +3,10 @@
 use mathlib.Core.Path.{_≡_, refl, sym, ap, _∙_}
 use mathlib.Core.Logic.{_≢_}
 use mathlib.Core.List.{List}
-use Prim.Native.Nat.{ℕ, suc, _+_, _-_, _*_, _<_, _≤_}
+use Prim.Native.Nat.{ℕ, suc, _+_, _*_, _<_, _≤_}
 use native.Mathlib.Decide.{ℕ-discrete}
 use native.Mathlib.Numerals.{add-one}
 use native.Mathlib.Omega.{arith}
-use lib.ListN.{length}
 use lib.Dec.{eqb}
 use borrow.Author.Count.{below-more}
 use Rattle.finite.specs.Says.{Says}
@@ -17,14 +16,11 @@ use Rattle.finite.proofs.Sum.{sum-mono, sum-const, sum-numbers}
 use Rattle.finite.proofs.Yes.{says-as, says-equal}
 use Rattle.finite.proofs.Walk.{Walk, walk-step}
 use Rattle.drawing.specs.Drawing.{Drawing, darts, event, after}
-use Rattle.drawing.specs.Conditions.{EventsKnown, Rings}
 use Rattle.drawing.proofs.Rounds.{Keeps, Kept}
-use Rattle.drawing.proofs.Counted.{Level, Tally, tally-skip, tally-ring, refuse-open, rings-counted}
+use Rattle.drawing.proofs.Counted.{Level}
 use Rattle.rules.specs.Chart.{drawing}
-use Rattle.words.specs.Tables.{nth}
 use Rattle.chart.specs.Shape.{Shape}
-use Rattle.chart.specs.Held.{Picked}
-use Rattle.rings.specs.Rounds.{Returned, Passed}
+use Rattle.rings.specs.Rounds.{Returned}
 
 -- c is the successor of d, and x and y are their events
 pub says-keeps : (g : Drawing) (d c x y : ℕ) → c ≡ after g d → c < darts g → x ≡ event g c → y ≡ event g d → Says (eqb x y) (Keeps g d)
@@ -90,44 +86,3 @@ module _ (g : Drawing) (d k c : ℕ) (W : Walk (after g) d k c) where
 
   pub walk-open : (left : ℕ) → left ≡ k → Returned g d left 0
   walk-open left q = record { within = omega arith; ring = λ a. absurd (omega arith); none = λ a j x y. W .fresh j x (omega arith) }
-
--- ---- events in turn: d is picked for the event v, and at the events below it met darts were met
-
-module _ (s : List ℕ) (n : ℕ) (S : Shape s n) (K : Kept (drawing s)) (E : EventsKnown (drawing s)) (first : List ℕ) (P : Picked (drawing s) first) where
-  module _ (v met : ℕ) (l : v < length first) (m : met ≤ n) (I : Tally (drawing s) (λ i. i) v met) (d : ℕ) (q : d ≡ nth first v) where
-    abbrev g : Drawing
-    g = drawing s
-
-    -- no dart: nothing to follow
-    pub pick-none : n ≤ d → Passed g (v + 1) met
-    pick-none h = record {
-      counted = λ a. tally-skip g (λ i. i) v met I (λ e k r. omega (arith, S .darts, P .each e k, ap (nth first) r));
-      refused = λ a. absurd (omega (arith, S .darts));
-    }
-
-    module _ (h : d < n) (r : ℕ) (W : Returned g d (n - met) r) where
-      inside : d < darts g
-      inside = omega (arith, S .darts)
-
-      there : event g d ≡ v
-      there = ap (event g) q ∙ P .own v (omega (arith, P .size)) (omega (arith, inside))
-
-      -- no return within the darts that are left
-      pub pick-open : r < 1 → Passed g (v + 1) (n + 1)
-      pick-open z = record {
-        counted = λ a. absurd (omega (arith, S .darts));
-        refused = λ a. refuse-open g (λ i. i) v met I K d inside there E (λ i h. omega (arith, E d inside, there), λ i j a b q. q) (n - met) (omega (arith, S .darts)) (W .none z);
-      }
-
-      pub pick-ring : 0 < r → Passed g (v + 1) (met + r)
-      pick-ring z = record {
-        counted = λ a. tally-ring g (λ i. i) v met I K d inside there r (W .ring z);
-        refused = λ a. absurd (omega (arith, S .darts, W .within));
-      }
-
--- the rings of all events are followed
-pub all-counted : (s : List ℕ) (n : ℕ) → Shape s n → Kept (drawing s) → EventsKnown (drawing s)
-    → (v met : ℕ) → v ≡ drawing s .events → Tally (drawing s) (λ i. i) v met → Says (eqb met n) (Rings (drawing s))
-all-counted s n S K E v met q I =
-    let exactly = rings-counted (drawing s) K E met (rw q at I) in
-    says-as (eqb met n) (λ e. exactly .0 (e ∙ S .darts)) (λ R. exactly .1 R ∙ sym (S .darts)) (says-equal met n)

@@ -94,6 +94,7 @@ module _ {s : List ℕ} {n : ℕ} (G : Ground s n) where
               (turns m′ q′ t′ (P .queued) (h + 1) (omega (arith, P .grown .longer))) (n - met) (omega (arith, G .shape .darts)) (P .back .none z);
           short = λ o. absurd (omega (arith, G .shape .darts));
           met = λ o. absurd (omega (arith, G .shape .darts));
+          gone = λ o. absurd (omega (arith, G .shape .darts));
         }
 
         pub onward : 0 < k → Closing g m′ q′ (h + 1) t′ (met + k)
@@ -130,4 +131,14 @@ module _ {s : List ℕ} {n : ℕ} (G : Ground s n) where
             let T = turns m q t (C .queued) h (C .within) in
             omega (arith, C .told .exact R, turns-all g (G .known) (λ i. event g (nth q i)) h every T);
         met = λ o R. record { size = C .queued .marks; own = C .queued .own; real = C .queued .real; each = λ v k f. closed R f };
+        gone = λ o. record {
+          turn = λ i. event g (nth q i);
+          many = h;
+          told = C .told;
+          turns = turns m q t (C .queued) h (C .within);
+          each = λ u k r.
+              let f = C .queued .found u k (r (omega arith)) in
+              (f .0, omega (arith, f .1), f .2);
+          only = λ i k r. C .queued .entry i (omega (arith, C .within)) .1;
+        };
       }

@@ -10,8 +10,10 @@
 --   Pushed g x ..              what a push of dart x makes of them
 --   Rounded g s left .. k      what following the ring of dart s, k steps within left, makes of them
 --   Met g first                first has a dart of each event that the arrows join with dart 0's, and none for the others
+--   Gone g first v met         the rings of the events that are marked or below v have been followed, each in its turn, and met so many darts
 --   Followed g first r         up to all darts: r are met on the rings of the events joined with dart 0's, and if these are all events and not all
 --                              darts are met, or r is more, some event's darts are not one ring
+--   Passed g first v r         up to all darts: r are met on the rings of the events marked or below v; more: some event's darts are not one ring
 use mathlib.Core.Path.{_≡_}
 use mathlib.Core.Logic.{_≢_}
 use mathlib.Core.List.{List}
@@ -21,6 +23,7 @@ use Rattle.finite.specs.Sums.{sum, δ}
 use Rattle.drawing.specs.Drawing.{Drawing, darts, event, twin}
 use Rattle.drawing.specs.Conditions.{EventsKnown, Rings}
 use Rattle.drawing.proofs.Rounds.{Kept}
+use Rattle.drawing.proofs.Counted.{Tally, Turns}
 use Rattle.rules.specs.Chart.{drawing}
 use Rattle.chart.specs.Shape.{Shape}
 use Rattle.words.specs.Tables.{nth}
@@ -83,9 +86,22 @@ pub record Met (g : Drawing) (first : List ℕ) : Type 0 where
   pub real : (v : ℕ) → v < g .events → Marked first v → From g (event g 0) v
   pub each : (v : ℕ) → v < g .events → From g (event g 0) v → Marked first v
 
+pub record Gone (g : Drawing) (first : List ℕ) (v met : ℕ) : Type 0 where
+  pub turn : ℕ → ℕ
+  pub many : ℕ
+  pub told : Tally g turn many met
+  pub turns : Turns g turn many
+  pub each : (u : ℕ) → u < g .events → (v ≤ u → Marked first u) → (i : ℕ) × (i < many) × (turn i ≡ u)
+  pub only : (i : ℕ) → i < many → v ≤ turn i → Marked first (turn i)
+
 pub record Followed (g : Drawing) (first : List ℕ) (r : ℕ) : Type 0 where
   pub size : length first ≡ g .events
   pub whole : r ≡ darts g → Rings g
   pub refused : darts g < r → Rings g → ⊥
   pub short : r < darts g → AllMarked first → Rings g → ⊥
   pub met : r ≤ darts g → Rings g → Met g first
+  pub gone : r ≤ darts g → Gone g first 0 r
+
+pub record Passed (g : Drawing) (first : List ℕ) (v r : ℕ) : Type 0 where
+  pub counted : r ≤ darts g → Gone g first v r
+  pub refused : darts g < r → Rings g → ⊥

@@ -1,6 +1,6 @@
 // Tests 9 and 10, in one walk round the rings: from event to event along the arrows the ring of each is followed once, from one of its darts, and the
-// darts met are counted. All darts are met exactly if each event's darts are one ring and no dart lies apart; else the rings are followed once more,
-// event by event.
+// darts met are counted. All darts are met exactly if each event's darts are one ring and no dart lies apart; else the rings of the other events are
+// followed too, one after the other.
 ghost use mathlib.Core.Path.{_≡_};
 ghost use Prim.Native.Nat.{_+_, _<_, _≤_};
 ghost use lib.ListN.{length, replicate};
@@ -8,12 +8,12 @@ ghost use Rattle.finite.specs.Says.{Says};
 ghost use Rattle.drawing.specs.Drawing.{after};
 ghost use Rattle.drawing.specs.Conditions.{EventsKnown, Rings, Joined};
 ghost use Rattle.drawing.proofs.Rounds.{Keeps, Kept};
-ghost use Rattle.drawing.proofs.Counted.{Level, Tally};
+ghost use Rattle.drawing.proofs.Counted.{Level};
 ghost use Rattle.rules.specs.Chart.{drawing};
 ghost use Rattle.chart.specs.Shape.{Shape};
 ghost use Rattle.chart.specs.Held.{Picked};
-ghost use Rattle.rings.specs.Rounds.{Returned, Passed};
-ghost use Rattle.rings.specs.Joining.{AllMarked, Ground, Ready, Pushed, Rounded, Met, Followed};
+ghost use Rattle.rings.specs.Rounds.{Returned};
+ghost use Rattle.rings.specs.Joining.{AllMarked, Ground, Ready, Pushed, Rounded, Met, Gone, Followed, Passed};
 
 // Is c, the successor of d, a dart, and of d's event?
 fn keeps(chart: &[u8], n: usize, d: usize, c: usize) -> bool
@@ -132,7 +132,7 @@ fn reach(chart: &[u8], n: usize, first: &mut [u16], queue: &mut [u16]) -> usize
     met
 }
 
-// ---- event by event
+// ---- the other events
 
 // Fills first with a dart of each event that has one, its highest, and with 65535 for the others.
 fn first_darts(chart: &[u8], n: usize, first: &mut [u16])
@@ -165,14 +165,18 @@ fn steps_back(chart: &[u8], n: usize, d: usize, left: usize) -> usize
     0
 }
 
-// Follows the ring of event v, if it has a dart, after the events below v, where met darts were met. Answers how many are met now, or n + 1:
-// then some event's darts are not one ring.
-fn follow(chart: &[u8], n: usize, first: &[u16], v: usize, met: usize) -> usize
+// Follows the ring of event v, unless it was met before or has no dart, after the events met before and those below v, where met darts were met.
+// Answers how many are met now, or n + 1: then some event's darts are not one ring.
+fn follow(chart: &[u8], n: usize, first: &[u16], some: &[u16], v: usize, met: usize) -> usize
     requires { ⌜ Shape (now chart) n × Kept (drawing (now chart)) × EventsKnown (drawing (now chart)) ⌝ }
-    requires { ⌜ Picked (drawing (now chart)) (now first) × (v < length (now first)) × (met ≤ n) × Tally (drawing (now chart)) (λ i. i) v met ⌝ }
-    ensures { λ r. ⌜ Passed (drawing (now (chart .entry))) (v + 1) r ⌝ }
+    requires { ⌜ (length (now first) ≡ drawing (now chart) .events) × Picked (drawing (now chart)) (now some) ⌝ }
+    requires { ⌜ (v < length (now first)) × (met ≤ n) × Gone (drawing (now chart)) (now first) v met ⌝ }
+    ensures { λ r. ⌜ Passed (drawing (now (chart .entry))) (now (first .entry)) (v + 1) r ⌝ }
 {
-    let d = words::get(first, v);
+    if words::get(first, v) != 65535 {
+        return met;
+    }
+    let d = words::get(some, v);
     if n <= d {
         return met;
     }
@@ -183,16 +187,17 @@ fn follow(chart: &[u8], n: usize, first: &[u16], v: usize, met: usize) -> usize
     met + k
 }
 
-// Follows the ring of each event in turn. Are all darts met?
-fn follow_all(chart: &[u8], n: usize, first: &[u16]) -> bool
+// Follows the ring of each event not met before, in turn, where found darts were met before. Are all darts met?
+fn follow_rest(chart: &[u8], n: usize, first: &[u16], some: &[u16], found: usize) -> bool
     requires { ⌜ Shape (now chart) n × Kept (drawing (now chart)) × EventsKnown (drawing (now chart)) ⌝ }
-    requires { ⌜ Picked (drawing (now chart)) (now first) ⌝ }
+    requires { ⌜ (length (now first) ≡ drawing (now chart) .events) × Picked (drawing (now chart)) (now some) ⌝ }
+    requires { ⌜ (found ≤ n) × Gone (drawing (now chart)) (now first) 0 found ⌝ }
     ensures { λ r. ⌜ Says r (Rings (drawing (now (chart .entry)))) ⌝ }
 {
-    let mut met = 0;
+    let mut met = found;
     let mut v = 0;
     while v < first.len() {
-        met = follow(chart, n, first, v, met);
+        met = follow(chart, n, first, some, v, met);
         if n < met {
             return false;
         }
@@ -240,7 +245,7 @@ pub fn one_ring_each(chart: &[u8], n: usize, first: &mut [u16], queue: &mut [u16
         return false;
     }
     first_darts(chart, n, queue);
-    follow_all(chart, n, queue)
+    follow_rest(chart, n, first, queue, met)
 }
 
 // Test 10: whether the arrows, direction ignored, join all events, of which first has a dart of each that they join with dart 0's.

@@ -1,14 +1,14 @@
 -- The laws of the flags of events, and that they tell the sources and sinks. Assumes nothing.
-use mathlib.Core.Path.{_≡_, refl, sym, ap, ap₂, _∙_}
+use mathlib.Core.Path.{_≡_, refl, sym, ap, _∙_}
 use mathlib.Core.Logic.{_≢_}
 use mathlib.Core.List.{List}
-use Prim.Native.Nat.{ℕ, _+_, _*_, _/_, _%_, _<_}
+use Prim.Native.Nat.{ℕ, _+_, _%_, _<_, _≤_}
 use native.Mathlib.Decide.{ℕ-discrete}
 use native.Mathlib.Omega.{arith}
 use borrow.Author.Tests.{eq-eqb, ne-eqb}
 use lib.ListN.{length, set, replicate, length-set, length-replicate, getD-replicate}
 use lib.Seq.{getD-set-same, getD-set-other}
-use Rattle.finite.specs.Sums.{sum, class}
+use Rattle.finite.specs.Sums.{sum, δ, class}
 use Rattle.finite.proofs.Sum.{δ-eq, δ-other}
 use Rattle.drawing.specs.Drawing.{Drawing, darts, event, enters, leaves, entering, leaving}
 use Rattle.drawing.specs.Conditions.{EventsKnown}
@@ -19,64 +19,92 @@ use Rattle.words.specs.Tables.{nth}
 use Rattle.rooms.specs.Flags.{flags, Pole, Flagged, Decided}
 use Rattle.finite.proofs.Tally.{class-more}
 
-pub begin : (g : Drawing) (m : ℕ) (l : List ℕ) → m ≡ g .events → l ≡ replicate m 0 → Flagged g 0 l
+pub begin : (g : Drawing) (m : ℕ) (l : List ℕ) → m ≡ g .events → l ≡ replicate m 0 → Flagged g 0 0 l
 unfolding class sum flags
 begin g m l e q = record {
   size = ap length q ∙ length-replicate m 0 ∙ e;
   each = λ v h. ap (λ (x : List ℕ). nth x v) q ∙ getD-replicate {A = ℕ} m v 0 0 (omega arith);
 }
 
-flags-small : (a b : ℕ) → flags a b < 4
+-- no dart is below 0
+none : (g : Drawing) (v : ℕ) → class 0 (event g) enters v ≡ 0
+unfolding class sum
+none g v = refl
+
+-- an arrow more, of whose darts the first leaves and the second enters
+two-leave : (g : Drawing) (v d : ℕ) → d % 2 ≡ 0 → class (d + 2) (event g) leaves v ≡ class d (event g) leaves v + δ (event g d) v
+two-leave g v d z =
+    let one : leaves d ≡ 1 = omega arith in
+    let zero : leaves (d + 1) ≡ 0 = omega arith in
+    let next : d + 2 ≡ d + 1 + 1 = omega arith in
+    rw (next, class-more (event g) leaves v (d + 1), class-more (event g) leaves v d, one, zero) (omega arith)
+
+two-enter : (g : Drawing) (v d : ℕ) → d % 2 ≡ 0 → class (d + 2) (event g) enters v ≡ class d (event g) enters v + δ (event g (d + 1)) v
+two-enter g v d z =
+    let zero : enters d ≡ 0 = omega arith in
+    let one : enters (d + 1) ≡ 1 = omega arith in
+    let next : d + 2 ≡ d + 1 + 1 = omega arith in
+    rw (next, class-more (event g) enters v (d + 1), class-more (event g) enters v d, one, zero) (omega arith)
+
+-- one more arrow that leaves, where none enters yet; one more that enters
+one-leaves : (a b : ℕ) → b ≡ 0 → 1 ≡ flags (a + 1) b
 unfolding flags
-flags-small a b = omega arith
+one-leaves a b z = omega arith
 
--- one more arrow that leaves
-one-leaves : (a b : ℕ) → flags a b / 2 * 2 + 1 ≡ flags (a + 1) (b + 0)
-unfolding flags
-one-leaves a b = omega arith
-
-pub leaves-more : (x d : ℕ) → d % 2 ≡ 0 → (a b : ℕ) → x ≡ flags a b → x / 2 * 2 + 1 ≡ flags (a + leaves d) (b + enters d)
-leaves-more x d z a b q = let one : leaves d ≡ 1 = omega arith in rw (q, one, z) (one-leaves a b)
-
--- one more that enters
-one-enters : (a b : ℕ) → flags a b % 2 + 2 ≡ flags (a + 0) (b + 1)
+one-enters : (a b : ℕ) → flags a b % 2 + 2 ≡ flags a (b + 1)
 unfolding flags
 one-enters a b = omega arith
 
-pub enters-more : (x d : ℕ) → d % 2 ≢ 0 → (a b : ℕ) → x ≡ flags a b → x % 2 + 2 ≡ flags (a + leaves d) (b + enters d)
-enters-more x d o a b q =
-    let none : leaves d ≡ 0 = omega arith in
-    let one : enters d ≡ 1 = omega arith in
-    rw (q, none, one) (one-enters a b)
-
-module _ {s : List ℕ} {n : ℕ} (S : Shape s n) (known : EventsKnown (drawing s)) (d : ℕ) (h : d < n) (l : List ℕ) (F : Flagged (drawing s) d l) where
+module _ {s : List ℕ} {n : ℕ} (S : Shape s n) (known : EventsKnown (drawing s)) (d : ℕ) (h : d < n) (even : d % 2 ≡ 0) where
   abbrev g : Drawing
   g = drawing s
 
-  -- the code has the event as v, its flags as x, and the new flags as y
-  module _ (v : ℕ) (at : v ≡ event g d) where
+  -- both darts of an arrow are darts
+  pub second : d + 1 < n
+  second = omega (arith, S .even)
+
+  -- and so the next arrow begins at most at their end
+  pub next-even : (d + 2 ≤ n) × ((d + 2) % 2 ≡ 0)
+  next-even = (omega (arith, S .even), omega arith)
+
+  -- the code has the tail as v
+  module _ (l : List ℕ) (F : Flagged g d 0 l) (v : ℕ) (at : v ≡ event g d) where
+    pub tail-in : v < length l
+    tail-in = omega (arith, at, known d (omega (arith, S .darts)), F .size)
+
+    pub tail-more : Flagged g (d + 2) 0 (set l v 1)
+    tail-more = record {
+      size = length-set l v 1 ∙ F .size;
+      each = λ u k. rw (two-leave g u d even) elim (ℕ-discrete u v) [
+        | yes e ↦
+            rw (e, δ-eq (event g d) v (sym at), getD-set-same l v 1 0 tail-in)
+            (one-leaves (class d (event g) leaves v) (class 0 (event g) enters v) (none g v))
+        | no e ↦
+            rw (δ-other (event g d) u (λ r. e (sym (at ∙ r))), getD-set-other l v u 1 0 e)
+            (F .each u k ∙ ap (λ (a : ℕ). flags a (class 0 (event g) enters u)) (omega arith))
+      ];
+    }
+
+  -- the code has the head as v, and its flags as x
+  module _ (l : List ℕ) (F : Flagged g n d l) (v : ℕ) (at : v ≡ event g (d + 1)) where
     inside : v < g .events
-    inside = omega (arith, at, known d (omega (arith, S .darts)))
+    inside = omega (arith, at, known (d + 1) (omega (arith, second, S .darts)))
 
-    pub event-in : v < length l
-    event-in = omega (arith, inside, F .size)
+    pub head-in : v < length l
+    head-in = omega (arith, inside, F .size)
 
-    module _ (x : ℕ) (got : x ≡ nth l v) where
-      pub small : x < 4
-      small = omega (arith, got, F .each v inside, flags-small (class d (event g) leaves v) (class d (event g) enters v))
-
-      pub more : (y : ℕ) (l′ : List ℕ) → ((a b : ℕ) → x ≡ flags a b → y ≡ flags (a + leaves d) (b + enters d)) → l′ ≡ set l v y → Flagged g (d + 1) l′
-      more y l′ new q = rw q record {
-        size = length-set l v y ∙ F .size;
-        each = λ u k. rw (class-more (event g) leaves u d, class-more (event g) enters u d) elim (ℕ-discrete u v) [
-          | yes e ↦
-              rw (e, δ-eq (event g d) v (sym at), getD-set-same l v y 0 event-in)
-              (new (class d (event g) leaves v) (class d (event g) enters v) (got ∙ F .each v inside) ∙ ap₂ flags (omega arith) (omega arith))
-          | no e ↦
-              rw (δ-other (event g d) u (λ r. e (sym (at ∙ r))), getD-set-other l v u y 0 e)
-              (F .each u k ∙ ap₂ flags (omega arith) (omega arith))
-        ];
-      }
+    pub head-more : (x : ℕ) → x ≡ nth l v → Flagged g n (d + 2) (set l v (x % 2 + 2))
+    head-more x got = record {
+      size = length-set l v (x % 2 + 2) ∙ F .size;
+      each = λ u k. rw (two-enter g u d even) elim (ℕ-discrete u v) [
+        | yes e ↦
+            rw (e, δ-eq (event g (d + 1)) v (sym at), getD-set-same l v (x % 2 + 2) 0 head-in)
+            (ap (λ (y : ℕ). y % 2 + 2) (got ∙ F .each v inside) ∙ one-enters (class n (event g) leaves v) (class d (event g) enters v))
+        | no e ↦
+            rw (δ-other (event g (d + 1)) u (λ r. e (sym (at ∙ r))), getD-set-other l v u (x % 2 + 2) 0 e)
+            (F .each u k ∙ ap (flags (class n (event g) leaves u)) (omega arith))
+      ];
+    }
 
 -- ---- the last pass
 
@@ -104,7 +132,7 @@ decided-more v l m D h x y got p = record {
   rest = λ u k. getD-set-other m v u y 0 (λ e. omega arith) ∙ D .rest u (omega arith);
 }
 
-pub poled : (s : List ℕ) (n m : ℕ) (l l′ : List ℕ) → Shape s n → Flagged (drawing s) n l → Decided m l l′ → m ≡ length l → Poled (drawing s) l′
+pub poled : (s : List ℕ) (n m : ℕ) (l l′ : List ℕ) → Shape s n → Flagged (drawing s) n n l → Decided m l l′ → m ≡ length l → Poled (drawing s) l′
 unfolding entering leaving Pole
 poled s n m l l′ S F D e = record {
   size = D .size ∙ F .size;

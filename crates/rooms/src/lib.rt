@@ -1,15 +1,15 @@
 // The room of each face, and the sources and sinks.
 ghost use mathlib.Core.Path.{_≡_};
-ghost use Prim.Native.Nat.{ℕ, _+_, _-_, _*_, _/_, _%_, _<_, _≤_};
+ghost use Prim.Native.Nat.{ℕ, _+_, _-_, _/_, _<_, _≤_};
 ghost use lib.ListN.{length, set};
-ghost use Rattle.drawing.specs.Drawing.{darts, enters, leaves, face, faces, room1};
+ghost use Rattle.drawing.specs.Drawing.{darts, face, faces, room1};
 ghost use Rattle.drawing.specs.Conditions.{EventsKnown, OuterKnown, Rings};
 ghost use Rattle.rules.specs.Chart.{drawing};
 ghost use Rattle.words.specs.Tables.{nth};
 ghost use Rattle.chart.specs.Shape.{Shape};
 ghost use Rattle.chart.specs.Held.{Keyed, Switched, Roomed, Poled};
 ghost use Rattle.rooms.specs.Counts.{Halved};
-ghost use Rattle.rooms.specs.Flags.{flags, Pole, Flagged, Decided};
+ghost use Rattle.rooms.specs.Flags.{Pole, Flagged, Decided};
 
 // ---- rooms
 
@@ -55,14 +55,6 @@ pub fn room_table(chart: &[u8], n: usize, here: &[u16], outer: usize, spare: &mu
 
 // ---- sources and sinks
 
-// The flags x of an event, with one more dart d.
-fn with_dart(x: usize, d: usize) -> usize
-    requires { ⌜ x < 4 ⌝ }
-    ensures { λ r. ⌜ ((a b : ℕ) → x ≡ flags a b → r ≡ flags (a + leaves d) (b + enters d)) × (r < 4) ⌝ }
-{
-    if d % 2 == 0 { x / 2 * 2 + 1 } else { x % 2 + 2 }
-}
-
 // 1 if the event with flags x is a source or a sink, else 0.
 fn pole_of(x: usize) -> usize
     ensures { λ r. ⌜ Pole x r × (r < 2) ⌝ }
@@ -70,26 +62,31 @@ fn pole_of(x: usize) -> usize
     if x == 3 { 0 } else { 1 }
 }
 
-// Adds dart d to the flags of its event.
-fn mark(chart: &[u8], n: usize, poles: &mut [u16], d: usize)
-    requires { ⌜ Shape (now chart) n × EventsKnown (drawing (now chart)) × (d < n) × Flagged (drawing (now chart)) d (now poles) ⌝ }
-    ensures { λ _. ⌜ Flagged (drawing (now (chart .entry))) (d + 1) (now (poles .exit)) ⌝ }
-{
-    let v = chart::event_of(chart, n, d);
-    let x = words::get(poles, v);
-    words::put(poles, v, with_dart(x, d));
-}
-
-// Fills `poles` with the flags of each event.
-fn mark_all(chart: &[u8], n: usize, poles: &mut [u16])
+// Fills `poles` with 1 at each event that an arrow leaves, 0 at the others. First all tails and then all heads: a tail's flag is stored without a look at
+// what was there.
+fn mark_tails(chart: &[u8], n: usize, poles: &mut [u16])
     requires { ⌜ Shape (now chart) n × EventsKnown (drawing (now chart)) × (length (now poles) ≡ drawing (now chart) .events) ⌝ }
-    ensures { λ _. ⌜ Flagged (drawing (now (chart .entry))) n (now (poles .exit)) ⌝ }
+    ensures { λ _. ⌜ Flagged (drawing (now (chart .entry))) n 0 (now (poles .exit)) ⌝ }
 {
     words::fill(poles, 0);
     let mut d = 0;
     while d < n {
-        mark(chart, n, poles, d);
-        d += 1;
+        words::put(poles, chart::event_of(chart, n, d), 1);
+        d += 2;
+    }
+}
+
+// Adds 2 at each event that an arrow enters.
+fn mark_heads(chart: &[u8], n: usize, poles: &mut [u16])
+    requires { ⌜ Shape (now chart) n × EventsKnown (drawing (now chart)) × Flagged (drawing (now chart)) n 0 (now poles) ⌝ }
+    ensures { λ _. ⌜ Flagged (drawing (now (chart .entry))) n n (now (poles .exit)) ⌝ }
+{
+    let mut d = 0;
+    while d < n {
+        let v = chart::event_of(chart, n, d + 1);
+        let x = words::get(poles, v);
+        words::put(poles, v, x % 2 + 2);
+        d += 2;
     }
 }
 
@@ -110,6 +107,7 @@ pub fn pole_table(chart: &[u8], n: usize, poles: &mut [u16])
     requires { ⌜ Shape (now chart) n × EventsKnown (drawing (now chart)) × (length (now poles) ≡ drawing (now chart) .events) ⌝ }
     ensures { λ _. ⌜ Poled (drawing (now (chart .entry))) (now (poles .exit)) ⌝ }
 {
-    mark_all(chart, n, poles);
+    mark_tails(chart, n, poles);
+    mark_heads(chart, n, poles);
     decide(poles);
 }

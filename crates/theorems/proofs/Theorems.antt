@@ -9,7 +9,7 @@
 --   chart-..              the same of the drawing in a chart
 use mathlib.Core.Path.{_≡_}
 use mathlib.Core.Logic.{_↔_, _⊎_, ⊎-elim}
-use mathlib.Core.List.{List, [], _∷_}
+use mathlib.Core.List.{List, [], _∷_, _++_}
 use Prim.Native.Nat.{ℕ, _%_, _<_}
 use lib.IntN.{pos}
 use lib.Signed.{_≤ℤ_}
@@ -27,8 +27,8 @@ use Rattle.rules.proofs.Chain.{given-first, given-parts}
 use Rattle.chart.specs.Form.{formTests}
 use Rattle.chart.proofs.Form.{given-formed}
 use Rattle.placing.proofs.Theorem as placing
-use Rattle.survey.specs.Past.{ringTests}
-use Rattle.survey.proofs.Passing.{past-rings}
+use Rattle.survey.specs.Past.{orderTests, faceTests}
+use Rattle.survey.proofs.Passing.{past-faces}
 use Rattle.theorems.specs.Past.{Uncrossed, Unmixed, Uncircled, uncrossedTests, unmixedTests}
 
 -- ---- drawings
@@ -72,9 +72,10 @@ module _ (s : List ℕ) where
   -- what the tests passed leave
   pub chart-uncrossed : Given uncrossedTests s 0 0 → Uncrossed (drawing s)
   chart-uncrossed g =
-      let h = given-parts formTests ringTests s 0 g in
+      let h = given-parts formTests (orderTests ++ faceTests) s 0 g in
       let f = given-formed s (h .0) in
-      let r = past-rings s (h .1) in
+      let t = given-parts orderTests faceTests s 0 (h .1) in
+      let r = past-faces s (t .0) (t .1) in
       record { even = darts-even s; known = f .known; own = f .own; outer = f .outer; rings = r .rings; joined = r .joined; planar = r .planar }
 
   pub chart-unmixed : Given unmixedTests s 0 0 → Unmixed (drawing s)

@@ -5,7 +5,8 @@ use borrow.Author.Needs.{needs}
 use Rattle.chart.specs.Form.{formTests}
 use Rattle.survey.proofs.Entry.{form-none, form-shape, form-length, form-formed}
 use Rattle.desk.specs.Stretch.{drawnTests}
-use Rattle.desk.proofs.Running.{form-small, silent-run, run-before, run-after, room-outcome, short-outcome}
+use Rattle.findings.proofs.Running.{silent-run, run-before, run-after}
+use Rattle.desk.proofs.Running.{form-small, room-outcome, short-outcome}
 use Rattle.desk.proofs.test_chart.Statement.{statement}
 use Rattle.desk.proofs.test_chart.Tie as tie
 

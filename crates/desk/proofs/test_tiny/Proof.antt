@@ -1,29 +1,11 @@
 -- `desk::test_tiny` meets its contract: a chart of a few arrows fits into its tables. Assumes nothing.
-use borrow.Author.Needs.{needs}
 use Rattle.finite.proofs.Filled.{lent, lent-length}
+use borrow.Author.Needs.{needs}
 use Rattle.desk.proofs.test_tiny.Statement.{statement}
 use Rattle.desk.proofs.test_tiny.Tie as tie
 
-sub-test-drawn : tie.Need-sub-test-drawn
-sub-test-drawn c = search needs
-
-part-here-start : tie.Need-part-here-start
-part-here-start c = search needs
-
-part-here-end : tie.Need-part-here-end
-part-here-end c = search needs
-
-sub-test-drawn-2 : tie.Need-sub-test-drawn-2
-sub-test-drawn-2 c = search needs
-
-part-spare-start : tie.Need-part-spare-start
-part-spare-start c = search needs
-
-part-spare-end : tie.Need-part-spare-end
-part-spare-end c = search needs
-
-sub-test-drawn-3 : tie.Need-sub-test-drawn-3
-sub-test-drawn-3 c = search needs
+sub-drawn-tiny : tie.Need-sub-drawn-tiny
+sub-drawn-tiny c = search needs
 
 part-first-start : tie.Need-part-first-start
 part-first-start c = search needs
@@ -31,8 +13,8 @@ part-first-start c = search needs
 part-first-end : tie.Need-part-first-end
 part-first-end c = search needs
 
-sub-test-drawn-4 : tie.Need-sub-test-drawn-4
-sub-test-drawn-4 c = search needs
+sub-drawn-tiny-2 : tie.Need-sub-drawn-tiny-2
+sub-drawn-tiny-2 c = search needs
 
 part-list-start : tie.Need-part-list-start
 part-list-start c = search needs
@@ -40,24 +22,11 @@ part-list-start c = search needs
 part-list-end : tie.Need-part-list-end
 part-list-end c = search needs
 
-sub-test-drawn-5 : tie.Need-sub-test-drawn-5
-sub-test-drawn-5 c = search needs
-
-part-large-start : tie.Need-part-large-start
-part-large-start c = search needs
-
-part-large-end : tie.Need-part-large-end
-part-large-end c = search needs
-
-test-drawn-requires : tie.Need-test-drawn-requires
-test-drawn-requires c κs =
-    let p = c .before .before .before .before .before .before .before .before .pre in (
-      (p .0, p .1),
-      (
-        record { corners = lent 32 _ 65535 (p .2); events = lent 32 _ 65535 (p .3); room = lent-length 32 _ 0 (p .3) },
-        (lent 32 _ 0 (p .3), search needs),
-      ),
-    )
+drawn-tiny-requires : tie.Need-drawn-tiny-requires
+drawn-tiny-requires c κs =
+    let e = c .before .before .before .before .before in
+    let p = e .pre in
+    (p, (lent 32 _ 65535 (p .3), lent-length 32 _ 0 (p .3)))
 
 same-length : tie.Need-same-length
 same-length c = search needs
@@ -69,21 +38,12 @@ pub test-tiny-spec : {M : Type 1} → statement M
 test-tiny-spec =
     tie.close
     (tie.spec
-    sub-test-drawn
-    part-here-start
-    part-here-end
-    sub-test-drawn-2
-    part-spare-start
-    part-spare-end
-    sub-test-drawn-3
+    sub-drawn-tiny
     part-first-start
     part-first-end
-    sub-test-drawn-4
+    sub-drawn-tiny-2
     part-list-start
     part-list-end
-    sub-test-drawn-5
-    part-large-start
-    part-large-end
-    test-drawn-requires
+    drawn-tiny-requires
     same-length
     returns)

@@ -1,7 +1,7 @@
 -- `places::seat` meets its contract: a source or sink sits where a corner near has room. Assumes nothing.
 use native.Mathlib.Omega.{arith}
 use mathlib.Core.Path.{refl, _∙_}
-use Rattle.places.proofs.Near.{near-sits}
+use Rattle.places.proofs.Turns.{near-sits}
 use borrow.Author.Needs.{needs}
 use Rattle.places.proofs.seat.Statement.{statement}
 use Rattle.places.proofs.seat.Tie as tie

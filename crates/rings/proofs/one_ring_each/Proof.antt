@@ -76,11 +76,13 @@ returns-4 c =
 first-darts-requires : tie.Need-first-darts-requires
 first-darts-requires c κs = search needs
 
-follow-all-requires : tie.Need-follow-all-requires
-follow-all-requires c κs =
-    let o = c .before .before .before .before .before .before .before .before .before .before .before .before .before .before .before .before .before in
+follow-rest-requires : tie.Need-follow-rest-requires
+follow-rest-requires c κs =
+    let o = c .before .before .before .before .before .before .before .before .before .before .before .before .before .before .before .before .before .before in
     let p = entry o .pre in
-    ((p .0 .0, kept o, p .0 .1), c .before .before .before .first-darts .ensures)
+    let F = c .before .before .before .before .before .before .before .before .before .before .before .before .before .before .before .reach .ensures in
+    let few = c .before .before .before .before .before .before .before .before .before .if3 .left in
+    ((p .0 .0, kept o, p .0 .1), ((F .size, c .before .before .before .before .first-darts .ensures), (search needs, F .gone (omega (arith, few, p .0 .0 .darts)))))
 
 same-length-7 : tie.Need-same-length-7
 same-length-7 c = search needs
@@ -90,8 +92,8 @@ same-length-8 c = search needs
 
 returns-5 : tie.Need-returns-5
 returns-5 c =
-    let n = c .before .before .before .before .before .before .before .before .before .before .before .before .before .before .before .before .before .before .before .before .before .before .before .pre .0 .0 .darts in
-    (c .follow-all .ensures, c .before .before .before .before .before .before .before .before .before .before .before .before .before .before .before .reach .ensures .met (omega (arith, c .before .before .before .before .before .before .before .before .before .if3 .left, n)))
+    let n = entry (c .before .before .before .before .before .before .before .before .before .before .before .before .before .before .before .before .before .before .before) .pre .0 .0 .darts in
+    (c .follow-rest .ensures, c .before .before .before .before .before .before .before .before .before .before .before .before .before .before .before .before .reach .ensures .met (omega (arith, c .before .before .before .before .before .before .before .before .before .before .if3 .left, n)))
 
 pub one-ring-each-spec : {M : Type 1} → statement M
 one-ring-each-spec =
@@ -111,7 +113,7 @@ one-ring-each-spec =
     same-length-6
     returns-4
     first-darts-requires
-    follow-all-requires
+    follow-rest-requires
     same-length-7
     same-length-8
     returns-5)

@@ -5,8 +5,11 @@ use borrow.Author.Needs.{needs}
 use Rattle.rooms.proofs.pole_table.Statement.{statement}
 use Rattle.rooms.proofs.pole_table.Tie as tie
 
-mark-all-requires : tie.Need-mark-all-requires
-mark-all-requires c κs = search needs
+mark-tails-requires : tie.Need-mark-tails-requires
+mark-tails-requires c κs = search needs
+
+mark-heads-requires : tie.Need-mark-heads-requires
+mark-heads-requires c κs = search needs
 
 decide-requires : tie.Need-decide-requires
 decide-requires c κs = search needs
@@ -15,7 +18,9 @@ same-length : tie.Need-same-length
 same-length c = search needs
 
 returns : tie.Need-returns
-returns c = poled _ _ _ _ _ (c .before .before .before .before .before .before .before .before .before .before .pre .0) (c .before .before .before .before .before .before .mark-all .ensures) (c .before .before .decide .ensures) refl
+returns c = poled _ _ _ _ _ (c .before .before .before .before .before .before .before .before .before .before .before .before .before .before .pre .0) (c .before .before .before .before .before .before .mark-heads .ensures) (c .before .before .decide .ensures) refl
 
 pub pole-table-spec : {M : Type 1} → statement M
-pole-table-spec = tie.close (tie.spec mark-all-requires decide-requires same-length returns)
+pole-table-spec =
+    tie.close
+    (tie.spec mark-tails-requires mark-heads-requires decide-requires same-length returns)

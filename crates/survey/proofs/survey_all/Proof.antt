@@ -1,15 +1,25 @@
--- `survey::survey_all` meets its contract: tests 9 to 11, then 12 and 13. Assumes nothing.
+-- `survey::survey_all` meets its contract: tests 9 and 10, then tests 11 to 13. Assumes nothing.
+--   entry      the function's entry, from where test 10 is passed
+--   zero       what holds there
 use mathlib.Core.Path.{_≡_, _∙_}
 use native.Mathlib.Omega.{arith}
+use Rattle.rules.proofs.Chain.{given-append, given-left}
+use Rattle.survey.specs.Past.{orderTests, laterTests}
+use Rattle.survey.proofs.Passing.{order-small, at-zero}
 use borrow.Author.Needs.{needs}
-use Rattle.rules.proofs.Chain.{given-left, given-append}
-use Rattle.survey.specs.Past.{ringTests, climbTests}
-use Rattle.survey.proofs.Passing.{ring-small, zero-ring, past-rings}
 use Rattle.survey.proofs.survey_all.Statement.{statement}
 use Rattle.survey.proofs.survey_all.Tie as tie
 
-ring-fault-requires : tie.Need-ring-fault-requires
-ring-fault-requires c κs = search needs
+abbrev entry : tie.Else1 → tie.Start
+entry o = o .before .before .before .before .before .before .before .before .before .before .before .before .before .before
+
+zero : (o : tie.Else1) → o .before .before .before .before .before .order-fault .result ≡ 0
+zero o = omega (arith, o .if1 .left)
+
+order-fault-requires : tie.Need-order-fault-requires
+order-fault-requires c κs =
+    let p = c .before .before .before .before .before .before .before .before .pre in
+    (p .0, p .1 .events, p .1 .room)
 
 same-length : tie.Need-same-length
 same-length c = search needs
@@ -17,30 +27,29 @@ same-length c = search needs
 same-length-2 : tie.Need-same-length-2
 same-length-2 c = search needs
 
+returns : tie.Need-returns
+returns c =
+    let R = c .before .before .before .before .before .order-fault .ensures in
+    let small = order-small _ _ (R .given) in
+    record {
+      given = given-left orderTests laterTests _ 0 _ (λ e. omega (arith, c .if1 .taken)) (R .given);
+      keyed = λ e. absurd (omega (arith, c .if1 .taken));
+      switched = λ e. absurd (omega (arith, c .if1 .taken));
+      evidence = λ l. absurd (omega (arith, small));
+    }
+
+survey-later-requires : tie.Need-survey-later-requires
+survey-later-requires c κs =
+    let o = c .before .before .before .before .before in
+    let p = entry o .pre in
+    let R = o .before .before .before .before .before .order-fault .ensures in
+    ((p .0, at-zero orderTests _ _ (zero o) (R .given), R .firsts (zero o)), (p .1 .corners, o .before .before .list .given ∙ p .1 .room, p .2))
+
 same-length-3 : tie.Need-same-length-3
 same-length-3 c = search needs
 
 same-length-4 : tie.Need-same-length-4
 same-length-4 c = search needs
-
-returns : tie.Need-returns
-returns c =
-    let R = c .before .before .before .before .before .before .before .before .before .ring-fault .ensures in
-    let small = ring-small _ _ (R .given) in
-    record {
-      given = given-left ringTests climbTests _ 0 _ (λ e. omega (arith, c .if1 .taken)) (R .given);
-      keyed = λ e. absurd (omega (arith, c .if1 .taken));
-      switched = λ e. absurd (omega (arith, c .if1 .taken));
-      firsts = λ e. absurd (omega (arith, c .if1 .taken));
-      evidence = λ l. absurd (omega (arith, small));
-    }
-
-climb-fault-requires : tie.Need-climb-fault-requires
-climb-fault-requires c κs =
-    let p = c .before .before .before .before .before .before .before .before .before .before .before .before .before .before .before .before .before .before .before .before .before .before .before .pre in
-    let R = c .before .before .before .before .before .before .before .before .before .before .before .before .ring-fault in
-    let z : R .result ≡ 0 = omega (arith, c .before .before .before .if1 .left) in
-    (p .0, (past-rings _ (zero-ring _ _ z (R .ensures .given)), (R .ensures .firsts z, (c .before .before .before .before .before .list .given ∙ p .1 .room, p .2))))
 
 same-length-5 : tie.Need-same-length-5
 same-length-5 c = search needs
@@ -51,22 +60,15 @@ same-length-6 c = search needs
 same-length-7 : tie.Need-same-length-7
 same-length-7 c = search needs
 
-same-length-8 : tie.Need-same-length-8
-same-length-8 c = search needs
-
-same-length-9 : tie.Need-same-length-9
-same-length-9 c = search needs
-
 returns-2 : tie.Need-returns-2
 returns-2 c =
-    let R = c .before .before .before .before .before .before .before .before .before .before .before .before .before .before .before .before .before .ring-fault in
-    let z : R .result ≡ 0 = omega (arith, c .before .before .before .before .before .before .before .before .if1 .left) in
-    let K = c .before .before .before .before .climb-fault .ensures in
+    let o = c .before .before .before .before .before .before .before .before .before .before .before .before .before .before in
+    let R = o .before .before .before .before .before .order-fault .ensures in
+    let K = c .before .before .before .before .before .before .before .before .survey-later .ensures in
     record {
-      given = given-append ringTests climbTests _ 0 _ (zero-ring _ _ z (R .ensures .given)) (K .given);
-      keyed = λ e. R .ensures .keyed z;
-      switched = λ e. R .ensures .switched z;
-      firsts = λ e. R .ensures .firsts z;
+      given = given-append orderTests laterTests _ 0 _ (at-zero orderTests _ _ (zero o) (R .given)) (K .given);
+      keyed = K .keyed;
+      switched = K .switched;
       evidence = K .evidence;
     }
 
@@ -74,16 +76,14 @@ pub survey-all-spec : {M : Type 1} → statement M
 survey-all-spec =
     tie.close
     (tie.spec
-    ring-fault-requires
+    order-fault-requires
     same-length
     same-length-2
+    returns
+    survey-later-requires
     same-length-3
     same-length-4
-    returns
-    climb-fault-requires
     same-length-5
     same-length-6
     same-length-7
-    same-length-8
-    same-length-9
     returns-2)
