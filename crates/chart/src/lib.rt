@@ -1,4 +1,6 @@
 // The chart's two tables, read in place: the event of each dart, and its clockwise successor. The header's numbers. The tests 2 to 8.
+#![tactic(auto)]
+
 ghost use Rattle.std.specs.Prelude.{◌≡◌, ◌*◌, ◌<◌, ◌≤◌, length};
 ghost use Rattle.finite.specs.Says.{Says};
 ghost use Rattle.drawing.specs.Drawing.{event, after};

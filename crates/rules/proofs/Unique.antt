@@ -13,7 +13,7 @@ use Rattle.drawing.specs.Conditions.{Labelling}
 use Rattle.rules.specs.Words.{bytes}
 use Rattle.rules.specs.Chart.{drawing}
 use Rattle.rules.specs.Tests.{Test, Given, tests, faults}
-use Rattle.rules.specs.Report.{Entries, Outcome, report, result_in, entries}
+use Rattle.rules.specs.Report.{Entries, Outcome, report, result_in}
 use Rattle.rules.specs.Judge.{Verdict, chart, J, fits, Either, Deserves, Judged}
 
 pub given-unique : (ts : List Test) (s : List ℕ) (r n m : ℕ) → Given ts s r n → Given ts s r m → n ≡ m

@@ -1,4 +1,6 @@
 // 16-bit numbers in bytes, low byte first; entries of tables; the twin of a dart.
+#![tactic(auto)]
+
 ghost use Rattle.std.specs.Prelude.{◌≡◌, ◌+◌, ◌<◌, ◌≤◌, length, set, replicate};
 ghost use Rattle.rules.specs.Words.{u16 as word_at};
 ghost use Rattle.drawing.specs.Drawing.{twin as other_dart};
