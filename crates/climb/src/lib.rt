@@ -1,4 +1,6 @@
 // Tests 12 and 13: the changes of direction round an event, the lowest mixed event, a circle or none.
+#![tactic(auto)]
+
 ghost use Rattle.std.specs.Prelude.{◌≡◌, ◌+◌, ◌≤◌, ◌<◌, length, replicate};
 ghost use Rattle.finite.specs.Says.{Says};
 ghost use Rattle.drawing.specs.Drawing.{arrows, event, enters, changes};

@@ -1,4 +1,6 @@
 // Whether a list of events is a cut: it ascends, names sources and sinks only, and is larger than the room of the faces that it touches.
+#![tactic(auto)]
+
 ghost use Rattle.std.specs.Prelude.{◌≡◌, ◌+◌, ◌*◌, ◌<◌, length};
 ghost use Rattle.finite.specs.Says.{Says};
 ghost use Rattle.drawing.specs.Conditions.{Cut};

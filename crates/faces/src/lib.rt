@@ -1,4 +1,6 @@
 // Test 11: a key for the face of each corner, the switch corners of each face, and the number of faces.
+#![tactic(auto)]
+
 ghost use Rattle.std.specs.Prelude.{◌≡◌, ◌+◌, ◌/◌, ◌%◌, ◌<◌, ◌≤◌, set, replicate};
 ghost use Rattle.finite.specs.Sums.{δ};
 ghost use Rattle.finite.specs.Says.{Says};

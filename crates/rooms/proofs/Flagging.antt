@@ -10,7 +10,7 @@ use lib.ListN.{length, set, replicate, length-set, length-replicate, get_or-repl
 use lib.Seq.{get_or-set_same, get_or-set_other}
 use Rattle.finite.specs.Sums.{sum, δ, class}
 use Rattle.finite.proofs.Sum.{δ-eq, δ-other}
-use Rattle.drawing.specs.Drawing.{Drawing, darts, event, enters, leaves, entering, leaving}
+use Rattle.drawing.specs.Drawing.{Drawing, event, enters, leaves, entering, leaving}
 use Rattle.drawing.specs.Conditions.{EventsKnown}
 use Rattle.rules.specs.Chart.{drawing}
 use Rattle.chart.specs.Shape.{Shape}

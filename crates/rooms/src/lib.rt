@@ -1,4 +1,6 @@
 // The room of each face, and the sources and sinks.
+#![tactic(auto)]
+
 ghost use Rattle.std.specs.Prelude.{◌≡◌, ℕ, ◌+◌, ◌-◌, ◌/◌, ◌<◌, ◌≤◌, length, set};
 ghost use Rattle.drawing.specs.Drawing.{darts, face, faces, room1};
 ghost use Rattle.drawing.specs.Conditions.{EventsKnown, OuterKnown, Rings};
