@@ -1,4 +1,6 @@
 // Tests 11 to 14 on tables lent, and the report: the part of the test that is the same for tables of every size.
+#![tactic(auto)]
+
 ghost use Rattle.std.specs.Prelude.{◌≡◌, ◌*◌, ◌≤◌, length, replicate};
 ghost use Rattle.drawing.specs.Drawing.{faces};
 ghost use Rattle.rules.specs.Chart.{drawing};

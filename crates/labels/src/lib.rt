@@ -1,4 +1,6 @@
 // Whether the labels of a report hold: each suits its corner, and the large corners of each event and of each face are as many as they should be.
+#![tactic(auto)]
+
 ghost use Rattle.std.specs.Prelude.{◌≡◌, ℕ, ◌+◌, ◌<◌, length, set};
 ghost use Rattle.finite.specs.Sums.{δ};
 ghost use Rattle.finite.specs.Says.{Says};

@@ -4,6 +4,8 @@
 // room. First everyone sits who touches a face with room. For each who is left over a search (the crate search) lists the
 // faces that it can reach by moves, up to one with room, and events move one by one. Where no listed face has room, the event
 // and all who are placed in listed faces are a cut.
+#![tactic(auto)]
+
 ghost use Rattle.std.specs.Prelude.{◌≡◌, ◌+◌, ◌%◌, ◌≤◌, ◌<◌, length};
 ghost use Rattle.drawing.specs.Drawing.{faces};
 ghost use Rattle.drawing.specs.Conditions.{EventsKnown};

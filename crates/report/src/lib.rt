@@ -1,4 +1,6 @@
 // The report: its public reader, and its writer. Bytes 0-2 are its mark, 3-4 its version, 5 the result, 6-7 the count; then the body.
+#![tactic(auto)]
+
 ghost use Rattle.std.specs.Prelude.{◌≡◌, ◌++◌, ◌+◌, ◌*◌, ◌<◌, ◌≤◌, length, take, drop};
 ghost use Rattle.rules.specs.Words.{bytes};
 ghost use Rattle.rules.specs.Report.{writes as written, entry as entry_bytes, is_well_formed, form, body, report as bytes_of};

@@ -1,6 +1,8 @@
 // Tests 9 and 10, in one walk round the rings: from event to event along the arrows the ring of each is followed once, from one of its darts, and the
 // darts met are counted. All darts are met exactly if each event's darts are one ring and no dart lies apart; else the rings of the other events are
 // followed too, one after the other.
+#![tactic(auto)]
+
 ghost use Rattle.std.specs.Prelude.{◌≡◌, ◌+◌, ◌<◌, ◌≤◌, length, replicate};
 ghost use Rattle.finite.specs.Says.{Says};
 ghost use Rattle.drawing.specs.Drawing.{after};

@@ -3,6 +3,8 @@
 // A search lists faces: those that the event touches, then for each listed face those that the events placed there touch, up to
 // a face with room. That gives the way back, along which events move one by one. Where no listed face has room, the event and
 // all who are placed in listed faces are a crowd: too many for the faces that they touch.
+#![tactic(auto)]
+
 ghost use Rattle.std.specs.Prelude.{◌≡◌, ◌≤◌, ◌<◌, length};
 ghost use Rattle.drawing.specs.Drawing.{event, after, faces};
 ghost use Rattle.rules.specs.Chart.{drawing};

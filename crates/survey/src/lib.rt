@@ -1,5 +1,7 @@
 // Tests 9 to 13, shared by the test and the judge: the fault, or none, with the tables that the later work needs. Tests 9 and 10 need fewer tables than
 // the others, and stand by themselves.
+#![tactic(auto)]
+
 ghost use Rattle.std.specs.Prelude.{◌≡◌, ◌*◌, ◌≤◌, length, replicate};
 ghost use Rattle.drawing.specs.Drawing.{faces};
 ghost use Rattle.drawing.specs.Conditions.{Rings};

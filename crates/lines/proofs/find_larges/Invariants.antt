@@ -1,0 +1,15 @@
+use mathlib.Core.Path.{◌≡◌, sym, subst, ◌∙◌}
+use Prim.Native.Nat.{ℕ, ◌-◌, ◌≤◌}
+use native.Mathlib.Omega.{arith}
+use lib.ListN.{length}
+use Rattle.rules.specs.Chart.{drawing}
+use Rattle.lines.specs.Follow.{Noted}
+use Rattle.lines.proofs.First.{note-start}
+use borrow.Author.Rules.{rules}
+use Rattle.lines.proofs.find_larges.Given as goal
+
+abbrev pub invariant-loop-c : goal.invariant-loop-c
+invariant-loop-c l = (l.c ≤ length l.labels) × Noted (drawing l.chart) l.labels l.c l.large
+
+abbrev pub decreases-loop-c : goal.decreases-loop-c
+decreases-loop-c l = length l.labels - l.c

@@ -1,0 +1,23 @@
+-- `report::put_list` meets its contract: the entries behind the place of the header, then the header. Assumes nothing.
+use mathlib.Core.Path.{◌≡◌, sym, ap, ◌∙◌}
+use mathlib.Core.List.{List, ◌++◌}
+use Prim.Native.Nat.{ℕ, ◌+◌, ◌*◌}
+use lib.ListN.{take, drop}
+use Rattle.rules.specs.Report.{report}
+use Rattle.report.specs.Headers.{header}
+use Rattle.report.proofs.Laws.{list-size, list-report, list_length}
+use Rattle.report.proofs.put_list.Goals as goal
+
+pub returns : goal.returns
+returns c =
+    let a = c.args in
+    let b = a.report.now in
+    let l = a.list.now in
+    let pre = c.requires in
+    let size : 8 + 2 * a.count ≡ c.size.result = sym (c.size.ensures ∙ list-size b l a.res a.count pre) in (
+      c.put_header.ensures
+          ∙ ap (λ (s : List ℕ). header a.res a.count ++ drop 8 s) c.put_entries.ensures
+          ∙ list-report b l a.res a.count pre
+          ∙ ap (λ (k : ℕ). report a.res (take a.count l) ++ drop k b) size,
+      sym size ∙ list_length b l a.res a.count pre,
+    )
