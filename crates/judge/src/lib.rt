@@ -1,4 +1,6 @@
 // The judge: the chart's fault 2 to 13, or what a report deserves. It writes nothing, and knows nothing of the search for places.
+#![tactic(auto)]
+
 ghost use Rattle.std.specs.Prelude.{◌≡◌, ◌*◌, ◌≤◌, length, replicate};
 ghost use Rattle.finite.specs.Says.{Says};
 ghost use Rattle.drawing.specs.Drawing.{faces};

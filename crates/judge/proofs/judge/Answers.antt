@@ -1,7 +1,6 @@
 -- `judge::judge` meets its contract: a fault of the form, or the rest. Assumes nothing.
 use mathlib.Core.Logic.{◌≢◌}
 use native.Mathlib.Omega.{arith}
-use borrow.Author.Rules.{rules}
 use Rattle.survey.proofs.Entry.{form-none, form-shape, form-length, form-formed}
 use Rattle.judge.proofs.Answers.{refused-file}
 use Rattle.judge.proofs.judge.Goals as goal

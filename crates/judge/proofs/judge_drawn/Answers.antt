@@ -2,7 +2,6 @@
 use mathlib.Core.Path.{◌≡◌, subst}
 use mathlib.Core.Logic.{◌≢◌}
 use native.Mathlib.Omega.{arith}
-use borrow.Author.Rules.{rules}
 use Rattle.rules.specs.Tests.{Given}
 use Rattle.rules.proofs.Chain.{given-append}
 use Rattle.chart.specs.Form.{form_tests}
