@@ -1,4 +1,6 @@
 // The listing's text: the first line, and the lines that follow it.
+#![tactic(auto)]
+
 ghost use Rattle.std.specs.Prelude.{◌≡◌, ◌∷◌, [], ◌++◌, ◌+◌, ◌*◌, ◌/◌, ◌≤◌, ◌<◌, length};
 ghost use Rattle.drawing.specs.Conditions.{EventsKnown};
 ghost use Rattle.rules.specs.Chart.{drawing};

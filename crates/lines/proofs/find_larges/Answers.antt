@@ -1,6 +1,6 @@
 -- `lines::find_larges` meets its contract: the corners below c are noted. Assumes nothing.
 use mathlib.Core.Path.{◌≡◌, sym, subst, ◌∙◌}
-use Prim.Native.Nat.{ℕ, ◌-◌, ◌≤◌}
+use Prim.Native.Nat.{ℕ}
 use native.Mathlib.Omega.{arith}
 use lib.ListN.{length}
 use Rattle.rules.specs.Chart.{drawing}

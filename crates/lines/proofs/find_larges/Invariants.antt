@@ -1,11 +1,7 @@
-use mathlib.Core.Path.{◌≡◌, sym, subst, ◌∙◌}
-use Prim.Native.Nat.{ℕ, ◌-◌, ◌≤◌}
-use native.Mathlib.Omega.{arith}
+use Prim.Native.Nat.{◌-◌, ◌≤◌}
 use lib.ListN.{length}
 use Rattle.rules.specs.Chart.{drawing}
 use Rattle.lines.specs.Follow.{Noted}
-use Rattle.lines.proofs.First.{note-start}
-use borrow.Author.Rules.{rules}
 use Rattle.lines.proofs.find_larges.Given as goal
 
 abbrev pub invariant-loop-c : goal.invariant-loop-c

@@ -3,7 +3,6 @@ use Prim.Native.Nat.{◌<◌}
 use native.Mathlib.Omega.{arith}
 use Rattle.rules.specs.Chart.{drawing}
 use Rattle.lines.proofs.First.{note-small, note-kept, note-new}
-use borrow.Author.Rules.{rules}
 use Rattle.lines.proofs.note.Goals as goal
 
 pub returns-then-labels-c-ne2 : goal.returns-then-labels-c-ne2

@@ -3,32 +3,31 @@ use mathlib.Core.Path.{◌≡◌}
 use native.Mathlib.Omega.{arith}
 use Rattle.rules.specs.Listing.{saying, ascii}
 use Rattle.lines.proofs.Said.{says}
-use borrow.Author.Rules.{rules}
 use Rattle.lines.proofs.put_fault.Goals as goal
 
 pub returns-in-2 : goal.returns-in-2
 unfolding saying ascii
-returns-in-2 c = says 2 c.in_default.keys1 c.put_text.ensures
+returns-in-2 c = let e : c.args.number ≡ 2 = omega arith in says 2 e c.put_text.ensures
 
 pub returns-in-3 : goal.returns-in-3
 unfolding saying ascii
-returns-in-3 c = says 3 c.in_default.keys2 c.put_text-in-3.ensures
+returns-in-3 c = let e : c.args.number ≡ 3 = omega arith in says 3 e c.put_text-in-3.ensures
 
 pub returns-in-4 : goal.returns-in-4
 unfolding saying ascii
-returns-in-4 c = says 4 c.in_default.keys3 c.put_text-in-4.ensures
+returns-in-4 c = let e : c.args.number ≡ 4 = omega arith in says 4 e c.put_text-in-4.ensures
 
 pub returns-in-5 : goal.returns-in-5
 unfolding saying ascii
-returns-in-5 c = says 5 c.in_default.keys4 c.put_text-in-5.ensures
+returns-in-5 c = let e : c.args.number ≡ 5 = omega arith in says 5 e c.put_text-in-5.ensures
 
 pub returns-in-6 : goal.returns-in-6
 unfolding saying ascii
-returns-in-6 c = says 6 c.in_default.keys5 c.put_text-in-6.ensures
+returns-in-6 c = let e : c.args.number ≡ 6 = omega arith in says 6 e c.put_text-in-6.ensures
 
 pub returns-in-7 : goal.returns-in-7
 unfolding saying ascii
-returns-in-7 c = says 7 c.in_default.keys6 c.put_text-in-7.ensures
+returns-in-7 c = let e : c.args.number ≡ 7 = omega arith in says 7 e c.put_text-in-7.ensures
 
 pub returns-in_default : goal.returns-in_default
 unfolding saying ascii

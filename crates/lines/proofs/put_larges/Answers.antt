@@ -2,7 +2,6 @@
 use native.Mathlib.Omega.{arith}
 use Rattle.lines.proofs.Text.{wrote_as}
 use Rattle.lines.proofs.First.{noted-table, table-corners}
-use borrow.Author.Rules.{rules}
 use Rattle.lines.proofs.put_larges.Goals as goal
 
 pub put_table-requires : goal.put_table-requires

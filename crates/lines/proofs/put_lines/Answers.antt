@@ -1,11 +1,11 @@
 -- `lines::put_lines` meets its contract: the lines of the first i numbers are written, in 11 bytes each at most. Assumes nothing.
 use mathlib.Core.Path.{◌≡◌, ap, ◌∙◌}
-use Prim.Native.Nat.{ℕ, ◌+◌, ◌-◌, ◌*◌, ◌/◌, ◌≤◌, ◌<◌}
+use Prim.Native.Nat.{ℕ, ◌+◌, ◌*◌, ◌/◌, ◌<◌}
 use native.Mathlib.Omega.{arith}
 use lib.ListN.{length}
 use Rattle.rules.specs.Words.{u16, words}
 use Rattle.rules.specs.Listing.{each}
-use Rattle.lines.specs.Text.{Wrote, line}
+use Rattle.lines.specs.Text.{line}
 use Rattle.lines.proofs.Text.{wrote_nothing, wrote_as, wrote_then, wrote-length}
 use Rattle.lines.proofs.Each.{words_more, words-all, line-short}
 use borrow.Author.Rules.{rules}

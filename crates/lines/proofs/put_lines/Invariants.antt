@@ -1,13 +1,9 @@
-use mathlib.Core.Path.{◌≡◌, ap, ◌∙◌}
-use Prim.Native.Nat.{ℕ, ◌+◌, ◌-◌, ◌*◌, ◌/◌, ◌≤◌, ◌<◌}
-use native.Mathlib.Omega.{arith}
+use mathlib.Core.Path.{◌≡◌}
+use Prim.Native.Nat.{◌+◌, ◌-◌, ◌*◌, ◌/◌, ◌≤◌}
 use lib.ListN.{length}
-use Rattle.rules.specs.Words.{u16, words}
+use Rattle.rules.specs.Words.{words}
 use Rattle.rules.specs.Listing.{each}
 use Rattle.lines.specs.Text.{Wrote, line}
-use Rattle.lines.proofs.Text.{wrote_nothing, wrote_as, wrote_then, wrote-length}
-use Rattle.lines.proofs.Each.{words_more, words-all, line-short}
-use borrow.Author.Rules.{rules}
 use Rattle.lines.proofs.put_lines.Given as goal
 
 abbrev pub invariant-loop-i : goal.invariant-loop-i

@@ -1,11 +1,9 @@
 -- `lines::put_table` meets its contract: the lines of the events below v are written, in 23 bytes each at most. Assumes nothing.
 use mathlib.Core.Path.{◌≡◌, ap}
-use Prim.Native.Nat.{◌+◌, ◌-◌, ◌*◌, ◌≤◌}
 use native.Mathlib.Omega.{arith}
 use lib.ListN.{length}
 use Rattle.finite.specs.Sums.{below}
 use Rattle.rules.specs.Listing.{each}
-use Rattle.lines.specs.Text.{Wrote}
 use Rattle.lines.specs.Follow.{pairs}
 use Rattle.lines.proofs.Text.{wrote_nothing, wrote_as, wrote_then, wrote-length}
 use Rattle.lines.proofs.Each.{pairs-more, entry-short}

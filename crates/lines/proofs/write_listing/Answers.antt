@@ -9,20 +9,19 @@ use Rattle.rules.specs.Listing.{ascii}
 use Rattle.lines.specs.declared.Kind.TheVariants.{Corners, Events, Arrows, Nothing}
 use Rattle.lines.proofs.Text.{wrote_then}
 use Rattle.lines.proofs.Whole.{heading-short, listing-corners, listing-events, listing-arrows, listing-alone, long-labels, long-numbers, labels-asked, events-asked, arrows-asked, writes-events, writes-arrows, print, follows}
-use borrow.Author.Rules.{rules}
 use Rattle.lines.proofs.write_listing.Goals as goal
 use Rattle.lines.proofs.write_listing.Goals.{After-put_head-head, In-Arrows, In-Corners, In-Events}
 
 -- in each arm the kind tells the number
 
 corners : (c : In-Corners) → c.args.number ≡ 0
-corners c = follows _ Corners c.args.number c.enum_told-1.given.1 c.put_head-head.ensures.1
+corners c = follows _ Corners c.args.number c.in-Corners.is c.put_head-head.ensures.1
 
 events : (c : In-Events) → (c.args.number ≡ 12) ⊎ (c.args.number ≡ 14)
-events c = follows _ Events c.args.number c.enum_told-in-Events-1.given.1 c.put_head-head.ensures.1
+events c = follows _ Events c.args.number c.in-Events.is c.put_head-head.ensures.1
 
 arrows : (c : In-Arrows) → c.args.number ≡ 13
-arrows c = follows _ Arrows c.args.number c.enum_told-in-Arrows-1.given.1 c.put_head-head.ensures.1
+arrows c = follows _ Arrows c.args.number c.in-Arrows.is c.put_head-head.ensures.1
 
 -- and there is room after the first line
 
@@ -81,4 +80,4 @@ pub returns-in-Nothing : goal.returns-in-Nothing
 returns-in-Nothing c =
     let a = c.args in
     let h = c.put_head-head.ensures in
-    print h.0 (λ l e. listing-alone (drawing a.chart.now) a.number l (follows _ Nothing a.number c.enum_told-in-Nothing-1.given.1 h.1))
+    print h.0 (λ l e. listing-alone (drawing a.chart.now) a.number l (follows _ Nothing a.number c.in-Nothing.is h.1))
