@@ -1,4 +1,6 @@
 // The test, and then the judge on the stretch of report that the test wrote.
+#![tactic(auto)]
+
 ghost use Rattle.confirm.specs.Confirmed.{Confirmed};
 
 // Tests the chart, and lets the judge read the report: a chart past test 13 with full report room gets a yes or a no that the judge confirms.

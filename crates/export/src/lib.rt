@@ -1,4 +1,6 @@
 // The entries for programs in C and Rust: numbers and byte slices only. A slice passes as a pointer and a length.
+#![tactic(auto)]
+
 ghost use Rattle.std.specs.Prelude.{◌≡◌, ◌<◌};
 ghost use Rattle.rules.specs.Report.{form};
 ghost use Rattle.judge.specs.Verdicts.{refusal_of, fault_of, verdict_of};

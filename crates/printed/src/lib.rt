@@ -1,4 +1,6 @@
 // The listing of a chart, from its bytes to its text.
+#![tactic(auto)]
+
 ghost use Rattle.printed.specs.Listed.{Listed};
 
 // Tests the chart and writes its listing at the start of out; answers how many bytes the text has.
