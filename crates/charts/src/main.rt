@@ -1,152 +1,161 @@
 // Reads charts on standard input, each with a flag and its length in 16 bits before it, and writes a line for each: the number that the test
 // gives, the judge's verdict on the report that the test wrote, and under the flag 1 that report's length and entries.
+#![tactic(auto)]
+
 ghost use Rattle.std.specs.Prelude.{◌≤◌, ◌<◌, length};
 
-use libc::{STDERR_FILENO, STDOUT_FILENO};
+use std::io;
+use std::io::Write;
 
 fn wide(x: u8) -> usize {
     x as usize
 }
 
-// ---- parts of a line. Each of these answers as io::write_all does.
+// ---- parts of a line. Each of these fails where the system takes no more.
 
-fn say(text: &[u8]) -> bool {
-    io::write_all(STDOUT_FILENO, text)
+fn say(rt: &HostRuntime, text: &[u8]) -> io::Result<()> {
+    rt.stdout().write_all(text)
 }
 
-fn say_number(n: usize) -> bool {
-    io::print_decimal(STDOUT_FILENO, n as u64)
+fn say_number(rt: &HostRuntime, n: usize) -> io::Result<()> {
+    print!(rt; "{n}")
 }
 
 // The chart's refusal by its number.
-fn say_refusal(r: judge::Refusal) -> bool {
+fn say_refusal(rt: &HostRuntime, r: judge::Refusal) -> io::Result<()> {
     match r {
-        judge::Refusal::File(n) => say_number(n),
-        judge::Refusal::Drawn(n) => say_number(n),
+        judge::Refusal::File(n) => say_number(rt, n),
+        judge::Refusal::Drawn(n) => say_number(rt, n),
     }
 }
 
-fn say_fault(f: judge::Fault) -> bool {
+fn say_fault(rt: &HostRuntime, f: judge::Fault) -> io::Result<()> {
     match f {
-        judge::Fault::Form(j) => say(b"J") && say_number(j),
-        judge::Fault::Evidence(j) => say(b"J") && say_number(j),
+        judge::Fault::Form(j) => print!(rt; "J{j}"),
+        judge::Fault::Evidence(j) => print!(rt; "J{j}"),
     }
 }
 
-fn say_verdict(v: judge::Verdict) -> bool {
+fn say_verdict(rt: &HostRuntime, v: judge::Verdict) -> io::Result<()> {
     match v {
-        judge::Verdict::LabelsHold => say(b"J0"),
-        judge::Verdict::CutHolds => say(b"J1"),
-        judge::Verdict::Chart(r) => say_refusal(r),
-        judge::Verdict::Report(f) => say_fault(f),
+        judge::Verdict::LabelsHold => say(rt, b"J0"),
+        judge::Verdict::CutHolds => say(rt, b"J1"),
+        judge::Verdict::Chart(r) => say_refusal(rt, r),
+        judge::Verdict::Report(f) => say_fault(rt, f),
     }
 }
 
-fn say_entry(x: usize) -> bool {
-    say(b" ") && say_number(x)
+fn say_entry(rt: &HostRuntime, x: usize) -> io::Result<()> {
+    print!(rt; " {x}")
 }
 
-fn say_labels(body: &[u8]) -> bool {
+fn say_labels(rt: &HostRuntime, body: &[u8]) -> io::Result<()> {
     let mut i = 0;
     while i < body.len() {
-        if !say_entry(wide(body[i])) {
-            return false;
-        }
+        say_entry(rt, wide(body[i]))?;
         i += 1;
     }
-    true
+    Ok(())
 }
 
 // Entries of 16 bits.
-fn say_numbers(body: &[u8]) -> bool {
+fn say_numbers(rt: &HostRuntime, body: &[u8]) -> io::Result<()> {
     let n = body.len() / 2;
     let mut i = 0;
     while i < n {
-        if !say_entry(words::word(body, 2 * i)) {
-            return false;
-        }
+        say_entry(rt, words::word(body, 2 * i))?;
         i += 1;
     }
-    true
+    Ok(())
 }
 
 // The entries of a report; none where there is no report.
-fn say_entries(report: &[u8]) -> bool {
+fn say_entries(rt: &HostRuntime, report: &[u8]) -> io::Result<()> {
     let header = report::form_of(report);
     let report::Header::Good(result, count) = header else {
-        return true;
+        return Ok(());
     };
     let body = report::body_of(report);
     if result == 0 {
-        say_labels(body)
+        say_labels(rt, body)
     } else {
-        say_numbers(body)
+        say_numbers(rt, body)
     }
 }
 
-fn say_report(report: &[u8]) -> bool {
-    say(b" written ") && say_number(report.len()) && say(b" entries") && say_entries(report)
+fn say_report(rt: &HostRuntime, report: &[u8]) -> io::Result<()> {
+    say(rt, b" written ")?;
+    say_number(rt, report.len())?;
+    say(rt, b" entries")?;
+    say_entries(rt, report)
 }
 
 // ---- lines
 
-fn say_tested(k: usize, number: usize, verdict: judge::Verdict) -> bool {
-    say(b"chart ")
-        && say_number(k)
-        && say(b" result ")
-        && say_number(number)
-        && say(b" judge ")
-        && say_verdict(verdict)
+fn say_tested(
+    rt: &HostRuntime,
+    k: usize,
+    number: usize,
+    verdict: judge::Verdict,
+) -> io::Result<()> {
+    say(rt, b"chart ")?;
+    say_number(rt, k)?;
+    say(rt, b" result ")?;
+    say_number(rt, number)?;
+    say(rt, b" judge ")?;
+    say_verdict(rt, verdict)
 }
 
 // The line of chart k, which got the number and the report.
-fn say_line(k: usize, is_shown: bool, chart: &[u8], number: usize, report: &[u8]) -> bool {
+fn say_line(
+    rt: &HostRuntime,
+    k: usize,
+    is_shown: bool,
+    chart: &[u8],
+    number: usize,
+    report: &[u8],
+) -> io::Result<()> {
     let verdict = judge::judge(chart, report);
-    if !say_tested(k, number, verdict) {
-        return false;
-    }
+    say_tested(rt, k, number, verdict)?;
     if is_shown {
-        if !say_report(report) {
-            return false;
-        }
+        say_report(rt, report)?;
     }
-    say(b"\n")
+    say(rt, b"\n")
 }
 
-fn say_chart(k: usize, is_shown: bool, chart: &[u8]) -> bool {
+fn say_chart(rt: &HostRuntime, k: usize, is_shown: bool, chart: &[u8]) -> io::Result<()> {
     let mut report = [0u8; 6152];
     let answer = desk::test_chart(chart, &mut report);
     let number = answer.number;
     let written = answer.written;
-    say_line(k, is_shown, chart, number, &report[0..written])
+    say_line(rt, k, is_shown, chart, number, &report[0..written])
 }
 
 // The line of chart k, whose flag stands at `at`; answers where the chart ends, or 0, when it has said what is wrong.
-fn say_at(input: &[u8], at: usize, k: usize) -> usize
+fn say_at(rt: &HostRuntime, input: &[u8], at: usize, k: usize) -> usize
     requires { at < length input.now }
     ensures { result ≤ length input.now }
 {
     let is_shown = input[at] == 1;
     let end = streams::chart_end(input, at + 1);
     if end < at + 3 {
-        io::write_all(
-            STDERR_FILENO,
-            b"charts: standard input ends within a chart\n",
-        );
+        streams::complain(rt, "charts: standard input ends within a chart", None);
         return 0;
     }
-    if !say_chart(k, is_shown, &input[at + 3..end]) {
-        os::fail(b"charts: standard output");
-        return 0;
+    match say_chart(rt, k, is_shown, &input[at + 3..end]) {
+        Ok(()) => end,
+        Err(e) => {
+            streams::complain(rt, "charts: standard output", Some(e));
+            0
+        }
     }
-    end
 }
 
-fn say_all(input: &[u8]) {
+fn say_all(rt: &HostRuntime, input: &[u8]) {
     let mut at = 0;
     let mut k = 0;
     while at < input.len() {
-        let end = say_at(input, at, k);
+        let end = say_at(rt, input, at, k);
         if end <= at {
             return;
         }
@@ -155,12 +164,13 @@ fn say_all(input: &[u8]) {
     }
 }
 
-fn main() {
+fn main(rt: HostRuntime) {
     let mut input = [0u8; 131072];
-    let came = streams::read_all(&mut input);
+    let mut why = None;
+    let came = streams::read_all(&rt, &mut input, &mut why);
     let streams::Input::Bytes(n) = came else {
-        os::fail(b"charts: standard input");
+        streams::complain(&rt, "charts: standard input", why);
         return;
     };
-    say_all(&input[0..n]);
+    say_all(&rt, &input[0..n]);
 }

@@ -1,16 +1,18 @@
 // Reads a chart on standard input and writes its listing to standard output.
+#![tactic(auto)]
 
-fn main() {
+fn main(rt: HostRuntime) {
     let mut room = [0u8; 24588];
     let mut text = [0u8; 36864];
-    let ending = streams::list_input(&mut room, &mut text);
+    let mut why = None;
+    let ending = streams::list_input(&rt, &mut room, &mut text, &mut why);
     match ending {
         streams::Ending::AllWritten => {}
         streams::Ending::NotRead => {
-            os::fail(b"listing: standard input");
+            streams::complain(&rt, "listing: standard input", why);
         }
         streams::Ending::NotWritten => {
-            os::fail(b"listing: standard output");
+            streams::complain(&rt, "listing: standard output", why);
         }
     }
 }

@@ -13,13 +13,12 @@ use lib.Signed.{mag}
 use mir.Syntax.{w64}
 use mir.Val.{to_z, of_z}
 use mir.ValLaws.{to_z-of_z}
-use Rattle.libc.specs.Io.{Moved}
 use Rattle.streams.specs.declared.Input.{Input}
 use Rattle.streams.specs.declared.Input.TheVariants.{Bytes}
 use Rattle.streams.specs.declared.Step.{Step}
 use Rattle.streams.specs.declared.Step.TheVariants.{On, Done}
 use Rattle.streams.specs.Counted.{Within}
-use Rattle.streams.specs.Answers.{Fitting, step_of}
+use Rattle.streams.specs.Answers.{Moved, Fitting, step_of}
 
 pub came-within : (r : Input) (at k n : ℕ) → r ≡ Bytes k → Within at r n → at + k ≤ n
 came-within r at k n e w = subst (λ (i : Input). Within at i n) e w
