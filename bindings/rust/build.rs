@@ -18,7 +18,7 @@ fn main() {
         println!("cargo::rustc-link-lib=static=export");
     } else {
         println!(
-            "cargo::error=no {}: run `rt staticlib export`, or name the archive's folder in RINSHOLUPE_LIB_DIR",
+            "cargo::error=no {}: run `tools/build export`, or name the archive's folder in RINSHOLUPE_LIB_DIR",
             archive.display()
         );
     }

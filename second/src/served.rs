@@ -21,7 +21,7 @@ impl Served {
             (Some(program), Some(archive)) if program >= archive => {}
             _ => {
                 return Err(
-                    "target/bin/served is not there or old: rt staticlib export && tools/compile second/served.c",
+                    "target/bin/served is not there or old: tools/build export && tools/compile second/served.c",
                 );
             }
         }

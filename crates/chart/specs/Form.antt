@@ -3,7 +3,7 @@
 --   end_tests       the tests 6 and 7, of the events of the darts
 --   table_tests     the tests 6 to 8, of these and the outer dart
 --   form_tests      all of them, in document 01's order
---   Sound s        what they leave of the chart s
+--   Sound s         what they leave of the chart s
 use Rattle.std.specs.Prelude.{List, [], ◌∷◌, ◌++◌, ℕ, ◌*◌}
 use Rattle.drawing.specs.Conditions.{EventsKnown, NoOwnArrow, OuterKnown}
 use Rattle.rules.specs.Chart.{drawing, arrows_in}

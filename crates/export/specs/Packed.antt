@@ -1,8 +1,8 @@
 -- The answers of the entries as numbers, for callers in C and Rust. Assumes nothing.
 --   Tested s r x r'       x is number * 65536 + bytes written, of a run of the test
---   pack_form f            result * 65536 + count, or 4294967295 for bad form
---   pack_body r            start * 4294967296 + length of the body of the report r
---   pack_verdict v         0 to 4 for J0 to J4, 65536 + n for the chart's refusal n
+--   pack_form f           result * 65536 + count, or 4294967295 for bad form
+--   pack_body r           start * 4294967296 + length of the body of the report r
+--   pack_verdict v        0 to 4 for J0 to J4, 65536 + n for the chart's refusal n
 use Rattle.std.specs.Prelude.{◌≡◌, List, ℕ, ◌+◌, ◌*◌, length}
 use Rattle.rules.specs.Report.{Form, good, bad, Outcome, body_start, body}
 use Rattle.rules.specs.Judge.{Verdict, chart, J, Judged}

@@ -1,6 +1,6 @@
 -- The document's verdict for each case of the judge's answer, and the case for each verdict. Assumes nothing.
---   verdict_of a          the verdict that the answer a says: the chart's refusal by its number, or J0 to J4
---   case_of v             the answer that says the verdict v
+--   verdict_of a         the verdict that the answer a says: the chart's refusal by its number, or J0 to J4
+--   case_of v            the answer that says the verdict v
 --   Answered s r a       the judge's answer to the chart s and the report r is a, and no other
 --   Reported g r a       the answer a says what the report r of a chart past test 13 deserves
 use Rattle.std.specs.Prelude.{◌≡◌, cond, List, ℕ, eqb, leb}

@@ -5,7 +5,7 @@
 --   entry t v            the line of the event v, if it has one
 --   pairs t n            the lines of the events below n
 --   Table t              a table of as many events and corners as there can be
---   large_at g l v c      the corner c is one of the event v, and l labels it large
+--   large_at g l v c     the corner c is one of the event v, and l labels it large
 --   Noted g l c t        the table t has for each event the first of its large corners below c
 --   corners g l          the lines of the sources and sinks
 --   Labelled o at s l    l labels the chart s, and there is room in o for the lines of its events

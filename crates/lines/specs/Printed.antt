@@ -1,5 +1,5 @@
 -- What the listing is printed from, and what is printed. Assumes nothing.
---   listing_room               the room that a listing needs
+--   listing_room              the room that a listing needs
 --   Reported s n b            the test of the chart s gave the number n, and b is the stretch of the report that it wrote
 --   Printed s n b o o' r      o became o', with the listing first, in r bytes
 use Rattle.std.specs.Prelude.{◌≡◌, List, ◌++◌, ℕ, ◌≤◌, T, length, drop}

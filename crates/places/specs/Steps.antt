@@ -1,11 +1,11 @@
 -- What the two passes over the events ask and answer, and the labels. Assumes nothing.
---   Ranks              a rank for each key
---   Turn, Seated       an event's turn to sit: it is no pole, it is placed, or it is left over
---   Upto               how far all poles are placed, with one event more
---   Begin              the tables before the first pass: nobody is placed
---   Late, Housed       an event's turn when all sit who can: it is no pole or has its place, it is placed, or it has no place
---   Left, Settled      all events from w on: all poles are placed, or a crowd of poles with the first that has no place
---   Crowded, Rest      the same, with the crowd as a list
+--   Ranks               a rank for each key
+--   Turn, Seated        an event's turn to sit: it is no pole, it is placed, or it is left over
+--   Upto                how far all poles are placed, with one event more
+--   Begin               the tables before the first pass: nobody is placed
+--   Late, Housed        an event's turn when all sit who can: it is no pole or has its place, it is placed, or it has no place
+--   Left, Settled       all events from w on: all poles are placed, or a crowd of poles with the first that has no place
+--   Crowded, Rest       the same, with the crowd as a list
 --   label_of, Labels    the label of each corner; Plains before anyone's place is marked, Raised where those of the events below v are
 use Rattle.std.specs.Prelude.{◌≡◌, ◌≢◌, ◌⊎◌, List, ℕ, ◌+◌, ◌*◌, ◌≤◌, ◌<◌, length}
 use Rattle.finite.specs.Sums.{δ}

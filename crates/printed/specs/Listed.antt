@@ -1,5 +1,5 @@
 -- The listing of a chart, from its bytes to its text (document 01, "The listing"). Assumes nothing.
---   full_room             "a full report room": 6,152 bytes, all of them 0
+--   full_room            "a full report room": 6,152 bytes, all of them 0
 --   Told s o o' k        o became o': k bytes of it are the listing of a run of the test on the chart s, the rest stays
 --   Listed s o o' k      that, or nothing at all where o has too little room
 use Rattle.std.specs.Prelude.{◌≡◌, List, ◌++◌, ℕ, ◌≤◌, ◌<◌, length, drop, replicate}

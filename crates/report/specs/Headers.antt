@@ -1,6 +1,6 @@
 -- The report's header, in the reader's answer and in the writer's bytes (document 01, "The report"). Assumes nothing.
 --   formed h                     what the reader's answer h says
---   body_place p s                where the body of the report s starts, if s starts at p (a block of memory, and a byte in it)
+--   body_place p s               where the body of the report s starts, if s starts at p (a block of memory, and a byte in it)
 --   header n c                   the eight bytes of the header with the result n and the count c
 --   Listed report n list c       the first c numbers of list can be written as the entries of the result n
 use Rattle.std.specs.Prelude.{List, [], ◌∷◌, ℕ, ◌+◌, ◌*◌, ◌/◌, ◌%◌, ◌<◌, ◌≤◌, length}

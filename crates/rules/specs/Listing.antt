@@ -1,5 +1,5 @@
 -- The listing of a chart, given the number and the entries of its report (document 01, "The listing"). Assumes nothing.
---   input_room                how much of standard input the listing program reads
+--   input_room               how much of standard input the listing program reads
 --   saying, listing          the words of a number; the listing's text
 use Rattle.std.specs.Prelude.{ℕ, zero, suc, ◌+◌, ◌/◌, ◌%◌, cond, ◌&&◌, ◌||◌, List, [], ◌∷◌, ◌++◌, eqb, ltb, get_or}
 use Prim.Native.Char.{code}

@@ -1,7 +1,7 @@
 -- Counts and places of bytes within what was lent. Assumes nothing.
---   Within at r n      the bytes that came, from the place at on, lie within n
+--   Within at r n          the bytes that came, from the place at on, lie within n
 --   end_of_chart s at      the end of the chart at the place at of s, its length in 16 bits before it; 0 where s ends before
---   Ends s at e        that is e, and it lies within s
+--   Ends s at e            that is e, and it lies within s
 use Rattle.std.specs.Prelude.{◌≡◌, cond, List, ℕ, ◌+◌, ◌≤◌, leb, length}
 use Rattle.rules.specs.Words.{u16}
 use Rattle.streams.specs.declared.Input.{Input}

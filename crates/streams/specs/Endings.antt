@@ -1,5 +1,5 @@
 -- How the listing program ends (document 01, "The listing"). Assumes nothing.
---   ending_of b             the ending where the writer answered b
+--   ending_of b            the ending where the writer answered b
 --   Finished s o o' e      o became o' with the listing of the chart s first, and e is the ending for the writer's answer
 --   Ended came s o o' e    that, for as many bytes of s as came and for nothing else; where a read failed, o stays and e says so
 --   FromInput s o o' e     that, for some number of bytes that came into the room of the listing program, or a read that failed; o has room

@@ -1,7 +1,7 @@
 -- What a drawing past the tests up to a number satisfies, in document 01's words. Assumes nothing.
 --   Uncrossed g, uncrossed_tests     past test 11; the tests 2 to 11
 --   Unmixed g, unmixed_tests         past test 12; the tests 2 to 12
---   Uncircled g                     past test 13; the tests 2 to 13 are the `faults` of rules
+--   Uncircled g                      past test 13; the tests 2 to 13 are the `faults` of rules
 use Rattle.std.specs.Prelude.{◌≡◌, List, [], ◌∷◌, ◌++◌, ◌%◌}
 use Rattle.drawing.specs.Drawing.{Drawing, darts}
 use Rattle.drawing.specs.Conditions.{EventsKnown, NoOwnArrow, OuterKnown, Rings, Joined, Planar, NoneMixed, NoCircle}

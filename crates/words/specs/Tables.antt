@@ -1,5 +1,5 @@
 -- Tables of 16-bit numbers, and a number stored in bytes. Assumes nothing.
---   nth l i            entry i of the table l
+--   nth l i              entry i of the table l
 --   with_word s i v      s with the number v in its bytes i and i + 1, low byte first
 use Rattle.std.specs.Prelude.{ℕ, ◌+◌, ◌/◌, ◌%◌, List, get_or, set}
 

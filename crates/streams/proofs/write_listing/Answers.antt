@@ -9,7 +9,7 @@ pub slice_bounds-write_text-end : goal.slice_bounds-write_text-end
 slice_bounds-write_text-end c = omega (arith, listed-fits _ _ _ _ c.list_chart-k.ensures)
 
 pub write_text-requires : goal.write_text-requires
-write_text-requires c = record { descriptor = refl; shown = shown _ _ _ _ c.list_chart-k.ensures c.if-k-eq0.false }
+write_text-requires c = record { descriptor = refl; shown = shown _ _ _ _ c.list_chart-k.ensures (λ e. omega arith) }
 
 pub returns : goal.returns
-returns c = written _ _ _ _ c.list_chart-k.ensures c.if-k-eq0.false _
+returns c = written _ _ _ _ c.list_chart-k.ensures (λ e. omega arith) _
