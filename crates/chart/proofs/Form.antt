@@ -6,7 +6,7 @@ use native.Mathlib.Omega.{arith}
 use Rattle.rules.specs.Chart.{drawing, arrows_in}
 use Rattle.rules.specs.Tests.{Given, Passes, mark, version, counts, size, unknown, own, outer}
 use Rattle.rules.proofs.Bytes.{darts-drawing}
-use Rattle.rules.proofs.Chain.{given-first, given-parts}
+use Rattle.rules.proofs.Chain.{given_first, given_parts}
 use Rattle.chart.specs.Shape.{Shape}
 use Rattle.chart.specs.Form.{header_tests, table_tests, form_tests, Sound}
 
@@ -22,20 +22,20 @@ shape s c l = record {
   events = (c.0, c.1);
 }
 
-pub given-shape : (s : List ℕ) → Given header_tests s 0 0 → Shape s (2 * arrows_in s)
-given-shape s g =
-    let m = given-first mark (version ∷ counts ∷ size ∷ []) s 0 g in
-    let v = given-first version (counts ∷ size ∷ []) s 0 m.1 in
-    let c = given-first counts (size ∷ []) s 0 v.1 in
-    shape s c.0 (given-first size [] s 0 c.1).0
+pub given_shape : (s : List ℕ) → Given header_tests s 0 0 → Shape s (2 * arrows_in s)
+given_shape s g =
+    let m = given_first mark (version ∷ counts ∷ size ∷ []) s 0 g in
+    let v = given_first version (counts ∷ size ∷ []) s 0 m.1 in
+    let c = given_first counts (size ∷ []) s 0 v.1 in
+    shape s c.0 (given_first size [] s 0 c.1).0
 
-pub given-formed : (s : List ℕ) → Given form_tests s 0 0 → Sound s
-given-formed s g =
-    let h = given-parts header_tests table_tests s 0 g in
-    let k = given-first unknown (own ∷ outer ∷ []) s 0 h.1 in
-    let o = given-first own (outer ∷ []) s 0 k.1 in
-    record { shape = given-shape s h.0; known = k.0; own = o.0; outer = (given-first outer [] s 0 o.1).0 }
+pub given_formed : (s : List ℕ) → Given form_tests s 0 0 → Sound s
+given_formed s g =
+    let h = given_parts header_tests table_tests s 0 g in
+    let k = given_first unknown (own ∷ outer ∷ []) s 0 h.1 in
+    let o = given_first own (outer ∷ []) s 0 k.1 in
+    record { shape = given_shape s h.0; known = k.0; own = o.0; outer = (given_first outer [] s 0 o.1).0 }
 
 -- the shape, where the number of darts has a name
-pub formed-shape : (s : List ℕ) (n : ℕ) → Sound s → n ≡ 2 * arrows_in s → Shape s n
-formed-shape s n f e = rw e f.shape
+pub formed_shape : (s : List ℕ) (n : ℕ) → Sound s → n ≡ 2 * arrows_in s → Shape s n
+formed_shape s n f e = rw e f.shape

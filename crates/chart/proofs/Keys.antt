@@ -1,9 +1,9 @@
 -- Faces by key: what is summed by key is what is summed by face. Assumes nothing.
---   key-δ, key-class     a class of the keys is a class of the faces
---   at-face              what holds at the face of every corner holds at every face
---   key-face, key-met    every key below the number of faces is a face's, and a corner's
---   keys-sum             a sum over keys is the sum over the darts that name a face
---   rooms-sum, keyed-cut, keyed-labelling    the rooms' total, a cut and a labelling, by key
+--   key_δ, key_class     a class of the keys is a class of the faces
+--   at_face              what holds at the face of every corner holds at every face
+--   key_face, key_met    every key below the number of faces is a face's, and a corner's
+--   keys_sum             a sum over keys is the sum over the darts that name a face
+--   rooms_sum, keyed_cut, keyed_labelling    the rooms' total, a cut and a labelling, by key
 --   numbered             the faces as they are numbered, by their lowest darts, are keys
 use mathlib.Core.Path.{◌≡◌, sym, ap, ◌∙◌, subst}
 use lib.Dec.{T}
@@ -15,15 +15,15 @@ use native.Mathlib.Decide.{ℕ_discrete, dec_lt}
 use native.Mathlib.Omega.{arith}
 use Rattle.finite.specs.Sums.{bit, sum, δ, class}
 use Rattle.finite.specs.Steps.{Into}
-use Rattle.finite.proofs.Sum.{sum-cong, sum-add, sum_mono, sum-const, sum-δ, sum-tight, sum-prefix, δ-eq, δ-other, δ-le}
-use Rattle.finite.proofs.Class.{class-total, class-some, class-zero, spread}
+use Rattle.finite.proofs.Sum.{sum_cong, sum-add, sum_mono, sum_const, sum-δ, sum_tight, sum_prefix, δ-eq, δ_other, δ-le}
+use Rattle.finite.proofs.Class.{class_total, class_some, class-zero, spread}
 use Rattle.finite.specs.Lists.{All, Ascending}
 use Rattle.finite.proofs.Decide.{any?, ◌×?◌}
-use Rattle.finite.proofs.Extra.{δ-some}
+use Rattle.finite.proofs.Extra.{δ_some}
 use Rattle.drawing.specs.Drawing.{Drawing, darts, event, twin, face, faces, corner_face, plain, switch, room1, pole}
 use Rattle.drawing.specs.Conditions.{OuterKnown, Rings, Labelling, Cut}
-use Rattle.drawing.proofs.Twins.{twin-into}
-use Rattle.drawing.proofs.Faces.{corner-twin, corner-face, corner-into}
+use Rattle.drawing.proofs.Twins.{twin_into}
+use Rattle.drawing.proofs.Faces.{corner_twin, corner_face_lem, corner_into}
 use Rattle.drawing.proofs.Total.{room1-none}
 use Rattle.drawing.proofs.Labels.{labelled}
 use Rattle.drawing.proofs.Cuts.{cut_of}
@@ -33,22 +33,22 @@ use Rattle.chart.specs.Held.{number, Keyed}
 -- ---- classes
 
 module _ {g : Drawing} {here : List ℕ} (K : Keyed g here) where
-  pub key-δ : (c d : ℕ) → c < darts g → d < darts g → δ (nth here c) (nth here d) ≡ δ (corner_face g c) (corner_face g d)
-  key-δ c d l m = elim (ℕ_discrete (corner_face g c) (corner_face g d)) [
+  pub key_δ : (c d : ℕ) → c < darts g → d < darts g → δ (nth here c) (nth here d) ≡ δ (corner_face g c) (corner_face g d)
+  key_δ c d l m = elim (ℕ_discrete (corner_face g c) (corner_face g d)) [
     | yes e ↦ δ-eq (nth here c) (nth here d) ((K.same c d l m).0 e) ∙ sym (δ-eq (corner_face g c) (corner_face g d) e)
-    | no e ↦ δ-other (nth here c) (nth here d) (λ q. e ((K.same c d l m).1 q)) ∙ sym (δ-other (corner_face g c) (corner_face g d) e)
+    | no e ↦ δ_other (nth here c) (nth here d) (λ q. e ((K.same c d l m).1 q)) ∙ sym (δ_other (corner_face g c) (corner_face g d) e)
   ]
 
-  pub key-class : (w : ℕ → ℕ) (d : ℕ) → d < darts g → class (darts g) (nth here) w (nth here d) ≡ class (darts g) (corner_face g) w (corner_face g d)
+  pub key_class : (w : ℕ → ℕ) (d : ℕ) → d < darts g → class (darts g) (nth here) w (nth here d) ≡ class (darts g) (corner_face g) w (corner_face g d)
   unfolding class
-  key-class w d m =
-      sum-cong (darts g) (λ c. δ (nth here c) (nth here d) * w c) (λ c. δ (corner_face g c) (corner_face g d) * w c)
-      (λ c l. ap (λ (x : ℕ). x * w c) (key-δ c d l m))
+  key_class w d m =
+      sum_cong (darts g) (λ c. δ (nth here c) (nth here d) * w c) (λ c. δ (corner_face g c) (corner_face g d) * w c)
+      (λ c l. ap (λ (x : ℕ). x * w c) (key_δ c d l m))
 
 module _ (g : Drawing) (even : darts g % 2 ≡ 0) (R : Rings g) where
   -- every face has a corner
-  pub at-face : (P : ℕ → Type 0) → ((c : ℕ) → c < darts g → P (corner_face g c)) → (f : ℕ) → f < darts g → face g f ≡ f → P f
-  at-face P h f l e = subst P (corner-twin g even R f l ∙ e) (h (twin f) (twin-into (darts g) even f l))
+  pub at_face : (P : ℕ → Type 0) → ((c : ℕ) → c < darts g → P (corner_face g c)) → (f : ℕ) → f < darts g → face g f ≡ f → P f
+  at_face P h f l e = subst P (corner_twin g even R f l ∙ e) (h (twin f) (twin_into (darts g) even f l))
 
 -- ---- the key of a face
 
@@ -57,18 +57,18 @@ abbrev pub key_of : List ℕ → ℕ → ℕ
 key_of here f = nth here (twin f)
 
 module _ {g : Drawing} {here : List ℕ} (even : darts g % 2 ≡ 0) (R : Rings g) (K : Keyed g here) where
-  pub key-into : Into (darts g) (faces g) (key_of here)
-  key-into f l = K.inside (twin f) (twin-into (darts g) even f l)
+  pub key_into : Into (darts g) (faces g) (key_of here)
+  key_into f l = K.inside (twin f) (twin_into (darts g) even f l)
 
   -- the key of a corner is that of its face
-  pub key-corner : (c : ℕ) → c < darts g → key_of here (corner_face g c) ≡ nth here c
-  key-corner c l =
-      let i : corner_face g c < darts g = corner-into g even R c l in
-      (K.same (twin (corner_face g c)) c (twin-into (darts g) even (corner_face g c) i) l).0 (corner-twin g even R (corner_face g c) i ∙ corner-face g even R c l)
+  pub key_corner : (c : ℕ) → c < darts g → key_of here (corner_face g c) ≡ nth here c
+  key_corner c l =
+      let i : corner_face g c < darts g = corner_into g even R c l in
+      (K.same (twin (corner_face g c)) c (twin_into (darts g) even (corner_face g c) i) l).0 (corner_twin g even R (corner_face g c) i ∙ corner_face_lem g even R c l)
 
   key_apart : (f h : ℕ) → f < darts g → h < darts g → key_of here f ≡ key_of here h → face g f ≡ face g h
   key_apart f h l m q =
-      sym (corner-twin g even R f l) ∙ (K.same (twin f) (twin h) (twin-into (darts g) even f l) (twin-into (darts g) even h m)).1 q ∙ corner-twin g even R h m
+      sym (corner_twin g even R f l) ∙ (K.same (twin f) (twin h) (twin_into (darts g) even f l) (twin_into (darts g) even h m)).1 q ∙ corner_twin g even R h m
 
   abbrev names : ℕ → ℕ
   names f = δ (face g f) f
@@ -78,15 +78,15 @@ module _ {g : Drawing} {here : List ℕ} (even : darts g % 2 ≡ 0) (R : Rings g
   unfolding class
   one κ = elim (any? (darts g) (λ f. (key_of here f ≡ κ) × (face g f ≡ f)) (λ f. ℕ_discrete (key_of here f) κ ×? ℕ_discrete (face g f) f)) [
     | yes t ↦ omega (arith, sum_mono (darts g) (λ f. δ (key_of here f) κ * names f) (δ t.0) (below t.0 t.1 t.2), sum-δ (darts g) t.0 t.1)
-    | no none ↦ omega (arith, class-zero (darts g) (key_of here) names κ (λ f l e. δ-other (face g f) f (λ q. none (f, l, (e, q)))))
+    | no none ↦ omega (arith, class-zero (darts g) (key_of here) names κ (λ f l e. δ_other (face g f) f (λ q. none (f, l, (e, q)))))
   ]
     where
       below : (h : ℕ) → h < darts g → (key_of here h ≡ κ) × (face g h ≡ h) → (f : ℕ) → f < darts g → δ (key_of here f) κ * names f ≤ δ h f
       below h m p f l = elim (ℕ_discrete h f) [
         | yes e ↦ rw (δ-eq h f e) (omega (arith, δ-le (key_of here f) κ, δ-le (face g f) f, small (δ (key_of here f) κ) (names f) (δ-le (key_of here f) κ) (δ-le (face g f) f)))
         | no d ↦ elim (ℕ_discrete (key_of here f) κ) [
-          | yes q ↦ rw (δ-other (face g f) f (λ e. d (sym (sym e ∙ key_apart f h l m (q ∙ sym p.0) ∙ p.1)))) (omega (arith, mul-zero (δ (key_of here f) κ)))
-          | no q ↦ rw (δ-other (key_of here f) κ q) (omega (arith, zero-mul (names f)))
+          | yes q ↦ rw (δ_other (face g f) f (λ e. d (sym (sym e ∙ key_apart f h l m (q ∙ sym p.0) ∙ p.1)))) (omega (arith, mul-zero (δ (key_of here f) κ)))
+          | no q ↦ rw (δ_other (key_of here f) κ q) (omega (arith, zero-mul (names f)))
         ]
       ]
         where
@@ -97,41 +97,41 @@ module _ {g : Drawing} {here : List ℕ} (even : darts g % 2 ≡ 0) (R : Rings g
           ]
 
   -- as many faces as keys: every key is a face's
-  all-keys : (κ : ℕ) → κ < faces g → class (darts g) (key_of here) names κ ≡ 1
+  all_keys : (κ : ℕ) → κ < faces g → class (darts g) (key_of here) names κ ≡ 1
   unfolding faces
-  all-keys =
-      sum-tight (faces g) (class (darts g) (key_of here) names) (λ κ. 1) (λ κ l. one κ)
-      (class-total (darts g) (faces g) (key_of here) names key-into ∙ sym (mul-one (faces g)) ∙ sym (sum-const (faces g) 1))
+  all_keys =
+      sum_tight (faces g) (class (darts g) (key_of here) names) (λ κ. 1) (λ κ l. one κ)
+      (class_total (darts g) (faces g) (key_of here) names key_into ∙ sym (mul-one (faces g)) ∙ sym (sum_const (faces g) 1))
 
-  pub key-face : (κ : ℕ) → κ < faces g → (f : ℕ) × (f < darts g) × ((key_of here f ≡ κ) × (face g f ≡ f))
-  key-face κ l =
-      let t = class-some (darts g) (key_of here) names κ (omega (arith, all-keys κ l)) in
-      (t.0, t.1, (t.2.0, δ-some (face g t.0) t.0 t.2.1))
+  pub key_face : (κ : ℕ) → κ < faces g → (f : ℕ) × (f < darts g) × ((key_of here f ≡ κ) × (face g f ≡ f))
+  key_face κ l =
+      let t = class_some (darts g) (key_of here) names κ (omega (arith, all_keys κ l)) in
+      (t.0, t.1, (t.2.0, δ_some (face g t.0) t.0 t.2.1))
 
-  pub key-met : (κ : ℕ) → κ < faces g → (c : ℕ) × (c < darts g) × (nth here c ≡ κ)
-  key-met κ l = let t = key-face κ l in (twin t.0, twin-into (darts g) even t.0 t.1, t.2.0)
+  pub key_met : (κ : ℕ) → κ < faces g → (c : ℕ) × (c < darts g) × (nth here c ≡ κ)
+  key_met κ l = let t = key_face κ l in (twin t.0, twin_into (darts g) even t.0 t.1, t.2.0)
 
   -- what holds at the key of every corner holds at every key
   pub at_key : (P : ℕ → Type 0) → ((c : ℕ) → c < darts g → P (nth here c)) → (κ : ℕ) → κ < faces g → P κ
-  at_key P h κ l = let t = key-met κ l in subst P t.2 (h t.0 t.1)
+  at_key P h κ l = let t = key_met κ l in subst P t.2 (h t.0 t.1)
 
-  pub keys-sum : (h : ℕ → ℕ) → sum (faces g) h ≡ sum (darts g) (λ f. δ (face g f) f * h (key_of here f))
-  keys-sum h =
-      sum-cong (faces g) h (λ κ. h κ * class (darts g) (key_of here) names κ) (λ κ l. sym (mul-one (h κ)) ∙ ap (λ (x : ℕ). h κ * x) (sym (all-keys κ l)))
-      ∙ spread (darts g) (faces g) (key_of here) names h key-into
+  pub keys_sum : (h : ℕ → ℕ) → sum (faces g) h ≡ sum (darts g) (λ f. δ (face g f) f * h (key_of here f))
+  keys_sum h =
+      sum_cong (faces g) h (λ κ. h κ * class (darts g) (key_of here) names κ) (λ κ l. sym (mul-one (h κ)) ∙ ap (λ (x : ℕ). h κ * x) (sym (all_keys κ l)))
+      ∙ spread (darts g) (faces g) (key_of here) names h key_into
 
   -- the room of each face, and one more, by key and by face
-  pub rooms-sum : OuterKnown g → (room : ℕ → ℕ) → ((c : ℕ) → c < darts g → room (nth here c) + 1 ≡ room1 g (corner_face g c)) → sum (faces g) room + faces g ≡ sum (darts g) (room1 g)
-  rooms-sum out room each =
-      omega (arith, sum-add (faces g) room (λ κ. 1), sum-const (faces g) 1)
-      ∙ keys-sum (λ κ. room κ + 1)
-      ∙ sum-cong (darts g) (λ f. δ (face g f) f * (room (key_of here f) + 1)) (room1 g) (λ f l. elim (ℕ_discrete (face g f) f) [
-        | yes e ↦ rw (δ-eq (face g f) f e) (one-mul (room (key_of here f) + 1) ∙ each (twin f) (twin-into (darts g) even f l) ∙ ap (room1 g) (corner-twin g even R f l ∙ e))
-        | no d ↦ rw (δ-other (face g f) f d) (zero-mul (room (key_of here f) + 1) ∙ sym (room1-none g even R out f d))
+  pub rooms_sum : OuterKnown g → (room : ℕ → ℕ) → ((c : ℕ) → c < darts g → room (nth here c) + 1 ≡ room1 g (corner_face g c)) → sum (faces g) room + faces g ≡ sum (darts g) (room1 g)
+  rooms_sum out room each =
+      omega (arith, sum-add (faces g) room (λ κ. 1), sum_const (faces g) 1)
+      ∙ keys_sum (λ κ. room κ + 1)
+      ∙ sum_cong (darts g) (λ f. δ (face g f) f * (room (key_of here f) + 1)) (room1 g) (λ f l. elim (ℕ_discrete (face g f) f) [
+        | yes e ↦ rw (δ-eq (face g f) f e) (one-mul (room (key_of here f) + 1) ∙ each (twin f) (twin_into (darts g) even f l) ∙ ap (room1 g) (corner_twin g even R f l ∙ e))
+        | no d ↦ rw (δ_other (face g f) f d) (zero-mul (room (key_of here f) + 1) ∙ sym (room1-none g even R out f d))
       ])
 
   -- a set S of sources and sinks is a cut if it is larger than the room of any keys t that hold all its corners
-  pub keyed-cut : (S t room : ℕ → ℕ) (l : List ℕ)
+  pub keyed_cut : (S t room : ℕ → ℕ) (l : List ℕ)
       → ((c : ℕ) → c < darts g → S (event g c) ≤ t (nth here c))
       → ((c : ℕ) → c < darts g → room (nth here c) + 1 ≡ room1 g (corner_face g c))
       → sum (faces g) (λ κ. t κ * room κ) < sum g.events S
@@ -140,48 +140,48 @@ module _ {g : Drawing} {here : List ℕ} (even : darts g % 2 ≡ 0) (R : Rings g
       → length l ≡ sum g.events S
       → All (λ v. S v ≡ 1) l
       → Cut g l
-  keyed-cut S t room l touch rooms over =
+  keyed_cut S t room l touch rooms over =
       cut_of g S (λ f. t (key_of here f)) (λ f. δ (face g f) f * room (key_of here f)) l
-      (λ c k. omega (arith, touch c k, ap t (key-corner c k)))
-      (λ f k e. omega (arith, rooms (twin f) (twin-into (darts g) even f k), ap (room1 g) (corner-twin g even R f k ∙ e), ap (λ (x : ℕ). x * room (key_of here f)) (δ-eq (face g f) f e), one-mul (room (key_of here f))))
-      (omega (arith, over, keys-sum (λ κ. t κ * room κ), sum-cong (darts g) (λ f. δ (face g f) f * (t (key_of here f) * room (key_of here f))) (λ f. t (key_of here f) * (δ (face g f) f * room (key_of here f))) (λ f k. swap (δ (face g f) f) (t (key_of here f)) (room (key_of here f)))))
+      (λ c k. omega (arith, touch c k, ap t (key_corner c k)))
+      (λ f k e. omega (arith, rooms (twin f) (twin_into (darts g) even f k), ap (room1 g) (corner_twin g even R f k ∙ e), ap (λ (x : ℕ). x * room (key_of here f)) (δ-eq (face g f) f e), one-mul (room (key_of here f))))
+      (omega (arith, over, keys_sum (λ κ. t κ * room κ), sum_cong (darts g) (λ f. δ (face g f) f * (t (key_of here f) * room (key_of here f))) (λ f. t (key_of here f) * (δ (face g f) f * room (key_of here f))) (λ f k. swap (δ (face g f) f) (t (key_of here f)) (room (key_of here f)))))
     where
       swap : (a b c : ℕ) → a * (b * c) ≡ b * (a * c)
       swap a b c = omega arith
 
   -- large switch corners, one at each source and sink and none elsewhere, at each key as many as its room: a labelling
-  pub keyed-labelling : OuterKnown g → (large : ℕ → ℕ) (l : List ℕ)
+  pub keyed_labelling : OuterKnown g → (large : ℕ → ℕ) (l : List ℕ)
       → ((c : ℕ) → c < darts g → large c ≤ switch g c)
       → ((v : ℕ) → v < g.events → class (darts g) (event g) large v ≡ bit (pole g v))
       → ((c : ℕ) → c < darts g → class (darts g) (nth here) large (nth here c) + 1 ≡ room1 g (corner_face g c))
       → length l ≡ darts g
       → ((c : ℕ) → c < darts g → get_or l c 0 ≡ 2 * large c + plain g c)
       → Labelling g l
-  keyed-labelling out large l le ends full size has =
+  keyed_labelling out large l le ends full size has =
       labelled g even R out large l le ends
-      (at-face g even R (λ f. class (darts g) (corner_face g) large f + 1 ≡ room1 g f) (λ c k. omega (arith, key-class K large c k, full c k)))
+      (at_face g even R (λ f. class (darts g) (corner_face g) large f + 1 ≡ room1 g f) (λ c k. omega (arith, key_class K large c k, full c k)))
       size has
 
 -- ---- keys as the faces are numbered
 
-pub number-few : (g : Drawing) (f : ℕ) → number g f ≤ f
-number-few g f = omega (arith, sum_mono f (λ i. δ (face g i) i) (λ i. 1) (λ i l. δ-le (face g i) i), sum-const f 1)
+pub number_few : (g : Drawing) (f : ℕ) → number g f ≤ f
+number_few g f = omega (arith, sum_mono f (λ i. δ (face g i) i) (λ i. 1) (λ i l. δ-le (face g i) i), sum_const f 1)
 
 -- there are no more faces than darts
-pub faces-few : (g : Drawing) → faces g ≤ darts g
+pub faces_few : (g : Drawing) → faces g ≤ darts g
 unfolding faces
-faces-few g = number-few g (darts g)
+faces_few g = number_few g (darts g)
 
 -- a face has a higher number than the faces below it
-pub number-less : (g : Drawing) (f h : ℕ) → face g f ≡ f → f < h → number g f < number g h
-number-less g f h e l = omega (arith, sum-prefix f h (λ i. δ (face g i) i) l, δ-eq (face g f) f e)
+pub number_less : (g : Drawing) (f h : ℕ) → face g f ≡ f → f < h → number g f < number g h
+number_less g f h e l = omega (arith, sum_prefix f h (λ i. δ (face g i) i) l, δ-eq (face g f) f e)
 
-number-inj : (g : Drawing) (f h : ℕ) → face g f ≡ f → face g h ≡ h → number g f ≡ number g h → f ≡ h
-number-inj g f h e d q = elim (ℕ_discrete f h) [
+number_inj : (g : Drawing) (f h : ℕ) → face g f ≡ f → face g h ≡ h → number g f ≡ number g h → f ≡ h
+number_inj g f h e d q = elim (ℕ_discrete f h) [
   | yes r ↦ r
   | no r ↦ elim (dec_lt f h) [
-    | yes l ↦ absurd (omega (arith, number-less g f h e l))
-    | no l ↦ absurd (omega (arith, number-less g h f d (omega arith)))
+    | yes l ↦ absurd (omega (arith, number_less g f h e l))
+    | no l ↦ absurd (omega (arith, number_less g h f d (omega arith)))
   ]
 ]
 
@@ -189,9 +189,9 @@ pub numbered : {g : Drawing} {here : List ℕ} → darts g % 2 ≡ 0 → Rings g
 unfolding faces
 numbered {g} {here} even R size each = record {
   size = size;
-  inside = λ c l. omega (arith, each c l, number-less g (corner_face g c) (darts g) (corner-face g even R c l) (corner-into g even R c l));
+  inside = λ c l. omega (arith, each c l, number_less g (corner_face g c) (darts g) (corner_face_lem g even R c l) (corner_into g even R c l));
   same = λ c d l m. (
     λ q. each c l ∙ ap (number g) q ∙ sym (each d m),
-    λ q. number-inj g (corner_face g c) (corner_face g d) (corner-face g even R c l) (corner-face g even R d m) (sym (each c l) ∙ q ∙ each d m),
+    λ q. number_inj g (corner_face g c) (corner_face g d) (corner_face_lem g even R c l) (corner_face_lem g even R d m) (sym (each c l) ∙ q ∙ each d m),
   );
 }

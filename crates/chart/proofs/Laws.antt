@@ -16,13 +16,13 @@ module _ (s : List ℕ) (n d : ℕ) (S : Shape s n) (l : d < n) where
   inside : d < 2 * arrows_in s
   inside = omega (arith, S.darts, darts-drawing s)
 
-  pub event-in : event (drawing s) d ≡ u16 s (11 + 2 * d)
-  event-in = event-drawing s d inside
+  pub event_in : event (drawing s) d ≡ u16 s (11 + 2 * d)
+  event_in = event-drawing s d inside
 
   -- the second table is the part of the chart after the first
-  pub next-in : after (drawing s) d ≡ u16 (take (length s - (11 + 2 * n)) (drop (11 + 2 * n) s)) (2 * d)
+  pub next_in : after (drawing s) d ≡ u16 (take (length s - (11 + 2 * n)) (drop (11 + 2 * n) s)) (2 * d)
   unfolding u16
-  next-in = rw (take_all (length s - (11 + 2 * n)) (drop (11 + 2 * n) s) (omega (arith, length-drop (11 + 2 * n) s)))
+  next_in = rw (take_all (length s - (11 + 2 * n)) (drop (11 + 2 * n) s) (omega (arith, length-drop (11 + 2 * n) s)))
       (after-drawing s d inside ∙ ap (u16 s) (omega (arith, S.darts, darts-drawing s)) ∙ sym (part (11 + 2 * n) (2 * d)))
     where
       part : (k i : ℕ) → u16 (drop k s) i ≡ u16 s (k + i)

@@ -12,12 +12,12 @@ use borrow.Author.Count.{below_more}
 use lib.ListN.{length, set, take, length-set}
 use lib.Seq.{get_or-set_same, get_or-set_other, get_or-take, length-take-le}
 use Rattle.finite.specs.Steps.{iter}
-use Rattle.finite.proofs.Perm.{inj-le}
-use Rattle.finite.proofs.Orbit.{iter-add, cycle, fresh-inj}
+use Rattle.finite.proofs.Perm.{inj_le}
+use Rattle.finite.proofs.Orbit.{iter-add, cycle, fresh_inj}
 use Rattle.finite.proofs.Walk.{Walk, walk_start, walk_step}
 use Rattle.drawing.specs.Drawing.{Drawing, arrows, tail, head}
 use Rattle.drawing.specs.Conditions.{EventsKnown, NoCircle}
-use Rattle.drawing.proofs.Climb.{back, before, Enters, Turning, Turn, Lowest, first-turn, turning-before, far-turns, turn-circle, turn-lowest}
+use Rattle.drawing.proofs.Climb.{back, before, Enters, Turning, Turn, Lowest, first_turn, turning_before, far_turns, turn_circle, turn-lowest}
 use Rattle.words.specs.Tables.{nth}
 use Rattle.climb.specs.Evidence.{CircleFound}
 use Rattle.climb.specs.Back.{Kept, Entering, live, dead, Chosen, Lower, Written}
@@ -33,18 +33,18 @@ pub record Looked (g : Drawing) (left into : List ℕ) (a e : ℕ) : Type 0 wher
   pub size : length into ≡ g.events
   pub each : (b : ℕ) → b < a → 0 < nth left (tail g b) → 0 < nth left (head g b) → Good g left into (head g b) × ((e < g.events) × (0 < nth left e))
 
-pub looked-start : (g : Drawing) (left into : List ℕ) → length into ≡ g.events → Looked g left into 0 0
-looked-start g left into q = record { size = q; each = λ b l. absurd (omega arith) }
+pub looked_start : (g : Drawing) (left into : List ℕ) → length into ≡ g.events → Looked g left into 0 0
+looked_start g left into q = record { size = q; each = λ b l. absurd (omega arith) }
 
 module _ (g : Drawing) (left into : List ℕ) (a e : ℕ) (L : Looked g left into a e) where
-  pub looked-step : EventsKnown g → a < arrows g → (into' : List ℕ) (e' : ℕ) → Entering g left into a e into' e' → Looked g left into' (a + 1) e'
-  looked-step known l into' e' (dead idle) = record {
+  pub looked_step : EventsKnown g → a < arrows g → (into' : List ℕ) (e' : ℕ) → Entering g left into a e into' e' → Looked g left into' (a + 1) e'
+  looked_step known l into' e' (dead idle) = record {
     size = L.size;
     each =
         below_more (λ (b : ℕ). 0 < nth left (tail g b) → 0 < nth left (head g b) → Good g left into (head g b) × ((e < g.events) × (0 < nth left e))) a L.each
         (λ t h. absurd (idle t h));
   }
-  looked-step known l into' e' (live t h) =
+  looked_step known l into' e' (live t h) =
       let v : ℕ = head g a in
       let k : v < g.events = known (2 * a + 1) (omega arith) in
       let new : List ℕ = set into v a in
@@ -63,8 +63,8 @@ module _ (g : Drawing) (left into : List ℕ) (a e : ℕ) (L : Looked g left int
             (λ s u. (here, (k, h)));
       }
 
-  pub looked-done : Kept g left → arrows g ≡ a → Chosen g left into e
-  looked-done K q = record {
+  pub looked_done : Kept g left → arrows g ≡ a → Chosen g left into e
+  looked_done K q = record {
     size = L.size;
     here = let s = K.some in let b = K.each s.0 s.1 s.2 in
         (L.each b.0 (let h : b.0 < arrows g = b.1 in omega arith) b.2.1 (rw b.2.0 s.2)).1;
@@ -74,9 +74,9 @@ module _ (g : Drawing) (left into : List ℕ) (a e : ℕ) (L : Looked g left int
 
 -- ---- far back
 
-pub way-start : (g : Drawing) (into : List ℕ) (e : ℕ) → e ≡ before g (nth into) e 0
+pub way_start : (g : Drawing) (into : List ℕ) (e : ℕ) → e ≡ before g (nth into) e 0
 unfolding iter
-way-start g into e = refl
+way_start g into e = refl
 
 module _ (g : Drawing) (known : EventsKnown g) (left into : List ℕ) (e : ℕ) (C : Chosen g left into e) where
   stays : (k : ℕ) → (before g (nth into) e k < g.events) × (0 < nth left (before g (nth into) e k))
@@ -87,20 +87,20 @@ module _ (g : Drawing) (known : EventsKnown g) (left into : List ℕ) (e : ℕ) 
       let c = C.each (before g (nth into) e k) t.0 t.1 in
       (known (2 * nth into (before g (nth into) e k)) (let h = c.0.0 in omega (arith, h)), c.1)
 
-  on-way : (k : ℕ) → Enters g (nth into) (before g (nth into) e k) × (before g (nth into) e k < g.events)
-  on-way k = let t = stays k in ((C.each (before g (nth into) e k) t.0 t.1).0, t.0)
+  on_way : (k : ℕ) → Enters g (nth into) (before g (nth into) e k) × (before g (nth into) e k < g.events)
+  on_way k = let t = stays k in ((C.each (before g (nth into) e k) t.0 t.1).0, t.0)
 
   -- where the code is after k steps
   module _ (k v : ℕ) (q : v ≡ before g (nth into) e k) where
     pub way_at : Enters g (nth into) v × (v < g.events)
-    way_at = rw q (on-way k)
+    way_at = rw q (on_way k)
 
     pub way_next : (r : ℕ) → r ≡ back g (nth into) v → r ≡ before g (nth into) e (k + 1)
     unfolding iter
     way_next r z = rw add-one (z ∙ ap (back g (nth into)) q)
 
     pub far : g.events ≡ k → Turning g (nth into) v
-    far z = rw (q, ← z) (far-turns g (nth into) g.events e on-way)
+    far z = rw (q, ← z) (far_turns g (nth into) g.events e on_way)
 
 -- ---- the turn
 
@@ -108,41 +108,41 @@ module _ (g : Drawing) (known : EventsKnown g) (into : List ℕ) (s : ℕ) (T : 
   abbrev p : ℕ → ℕ
   p = back g (nth into)
 
-  turning-small : (k : ℕ) → before g (nth into) s k < g.events
-  turning-small k =
+  turning_small : (k : ℕ) → before g (nth into) s k < g.events
+  turning_small k =
       let t = T.each k in
       let h = known (2 * nth into (before g (nth into) s k) + 1) (let a = t.0 in omega (arith, a)) in
       omega (arith, h, t.1)
 
   pub turn_at : (k c : ℕ) → Walk p s k c → Enters g (nth into) c × (c < g.events)
-  turn_at k c W = rw W.here (T.each k, turning-small k)
+  turn_at k c W = rw W.here (T.each k, turning_small k)
 
-  pub turn-next : (k c e : ℕ) → Walk p s k c → e ≡ p c → e < g.events
-  turn-next k c e W q = let t = (turn_at k c W).0.0 in rw q (known (2 * nth into c) (omega (arith, t)))
+  pub turn_next : (k c e : ℕ) → Walk p s k c → e ≡ p c → e < g.events
+  turn_next k c e W q = let t = (turn_at k c W).0.0 in rw q (known (2 * nth into c) (omega (arith, t)))
 
-  turn-few : (m : ℕ) → Turn g (nth into) s m → m ≤ g.events
-  turn-few m U = inj-le m g.events (before g (nth into) s) (fresh-inj p s m U.returns U.fresh) (λ k l. turning-small k)
+  turn_few : (m : ℕ) → Turn g (nth into) s m → m ≤ g.events
+  turn_few m U = inj_le m g.events (before g (nth into) s) (fresh_inj p s m U.returns U.fresh) (λ k l. turning_small k)
 
-  pub turn-steps : (k c : ℕ) → Walk p s k c → k < g.events
-  turn-steps k c W =
-      let t = first-turn g (nth into) s T in
+  pub turn_steps : (k c : ℕ) → Walk p s k c → k < g.events
+  turn_steps k c W =
+      let t = first_turn g (nth into) s T in
       elim (dec_lt k t.0) [
-        | yes l ↦ omega (arith, turn-few t.0 t.1)
+        | yes l ↦ omega (arith, turn_few t.0 t.1)
         | no l ↦ absurd (W.fresh t.0 t.1.some (omega arith) t.1.returns)
       ]
 
-  pub turn-nearer : (k c e : ℕ) → Walk p s k c → e ≡ p c → e ≢ s → ahead g.events p s (p e) < ahead g.events p s (p c)
-  turn-nearer k c e W q z =
-      let t = first-turn g (nth into) s T in
-      rw q (nearer p s g.events t.0 c t.1.some (turn-few t.0 t.1) t.1.returns (k, sym W.here) (λ r. z (q ∙ r)))
+  pub turn_nearer : (k c e : ℕ) → Walk p s k c → e ≡ p c → e ≢ s → ahead g.events p s (p e) < ahead g.events p s (p c)
+  turn_nearer k c e W q z =
+      let t = first_turn g (nth into) s T in
+      rw q (nearer p s g.events t.0 c t.1.some (turn_few t.0 t.1) t.1.returns (k, sym W.here) (λ r. z (q ∙ r)))
 
-  pub turn-again : (k c e : ℕ) → Walk p s k c → e ≡ p c → e ≢ s → Walk p s (k + 1) e
-  turn-again k c e W q z = rw q (walk_step p s k c W (λ r. z (q ∙ r)))
+  pub turn_again : (k c e : ℕ) → Walk p s k c → e ≡ p c → e ≢ s → Walk p s (k + 1) e
+  turn_again k c e W q z = rw q (walk_step p s k c W (λ r. z (q ∙ r)))
 
   -- how long the turn is
-  pub turn-done : (k c e : ℕ) → Walk p s k c → e ≡ p c → e ≡ s → Turn g (nth into) s (k + 1) × (k + 1 ≤ g.events)
+  pub turn_done : (k c e : ℕ) → Walk p s k c → e ≡ p c → e ≡ s → Turn g (nth into) s (k + 1) × (k + 1 ≤ g.events)
   unfolding iter
-  turn-done k c e W q z = (U, turn-few (k + 1) U)
+  turn_done k c e W q z = (U, turn_few (k + 1) U)
     where
       U : Turn g (nth into) s (k + 1)
       U = record {
@@ -160,9 +160,9 @@ pub record Lowered (g : Drawing) (into : List ℕ) (s c best : ℕ) : Type 0 whe
   pub met : (j : ℕ) × (best ≡ before g (nth into) s j)
   pub low : (i : ℕ) → i ≤ steps → nth into best ≤ nth into (before g (nth into) s i)
 
-pub lowered-start : (g : Drawing) (into : List ℕ) (s : ℕ) → Lowered g into s s s
+pub lowered_start : (g : Drawing) (into : List ℕ) (s : ℕ) → Lowered g into s s s
 unfolding iter
-lowered-start g into s = record {
+lowered_start g into s = record {
   steps = 0;
   walk = walk_start (back g (nth into)) s;
   met = (0, refl);
@@ -170,13 +170,13 @@ lowered-start g into s = record {
 }
 
 module _ (g : Drawing) (known : EventsKnown g) (into : List ℕ) (s c best : ℕ) (T : Turning g (nth into) s) (L : Lowered g into s c best) where
-  pub best-small : best < g.events
-  best-small = rw L.met.1 (turning-small g known into s T L.met.0)
+  pub best_small : best < g.events
+  best_small = rw L.met.1 (turning_small g known into s T L.met.0)
 
   module _ (e : ℕ) (q : e ≡ back g (nth into) c) where
-    pub lowered-step : e ≢ s → (best' : ℕ) → Lower into best e best' → Lowered g into s e best'
+    pub lowered_step : e ≢ s → (best' : ℕ) → Lower into best e best' → Lowered g into s e best'
     unfolding iter
-    lowered-step z best' B =
+    lowered_step z best' B =
         let at : e ≡ before g (nth into) s (suc L.steps) = q ∙ ap (back g (nth into)) L.walk.here in
         record {
           steps = L.steps + 1;
@@ -188,10 +188,10 @@ module _ (g : Drawing) (known : EventsKnown g) (into : List ℕ) (s c best : ℕ
           ];
         }
 
-    pub lowered-done : e ≡ s → Turning g (nth into) best × Lowest g (nth into) best
+    pub lowered_done : e ≡ s → Turning g (nth into) best × Lowest g (nth into) best
     unfolding iter
-    lowered-done z = rw L.met.1 (
-      turning-before g (nth into) s L.met.0 T,
+    lowered_done z = rw L.met.1 (
+      turning_before g (nth into) s L.met.0 T,
       λ k.
           let r = cycle (back g (nth into)) s (suc L.steps) (omega arith) (sym (ap (back g (nth into)) L.walk.here) ∙ sym q ∙ z) (k + L.met.0) in
           let h : r.0 < suc L.steps = r.1 in
@@ -241,22 +241,22 @@ module _ (g : Drawing) (into : List ℕ) (s m n : ℕ) (out : List ℕ) (i e : �
         let a = t.0 in
         (t, omega (arith, known (2 * nth into (before g (nth into) s k) + 1) (omega (arith, a)), t.1))
 
-    pub writing-at : Enters g (nth into) e × (e < g.events)
-    writing-at = rw W.here (there (m - i))
+    pub writing_at : Enters g (nth into) e × (e < g.events)
+    writing_at = rw W.here (there (m - i))
 
-    pub writing-next : (e' : ℕ) → e' ≡ back g (nth into) e → Enters g (nth into) e' × (e' < g.events)
+    pub writing_next : (e' : ℕ) → e' ≡ back g (nth into) e → Enters g (nth into) e' × (e' < g.events)
     unfolding iter
-    writing-next e' q = rw (q, W.here) (there (suc (m - i)))
+    writing_next e' q = rw (q, W.here) (there (suc (m - i)))
 
-  pub writing-done : i ≡ 0 → m ≤ n → Written g into s m out
-  writing-done z room = record { room = omega (arith, W.size); each = λ j b. W.each j (omega arith) b }
+  pub writing_done : i ≡ 0 → m ≤ n → Written g into s m out
+  writing_done z room = record { room = omega (arith, W.size); each = λ j b. W.each j (omega arith) b }
 
-pub circle-found : (g : Drawing) (into out : List ℕ) (s m : ℕ) → Turn g (nth into) s m → Lowest g (nth into) s → Written g into s m out → CircleFound g out m
-circle-found g into out s m T low W = record {
+pub circle_found : (g : Drawing) (into out : List ℕ) (s m : ℕ) → Turn g (nth into) s m → Lowest g (nth into) s → Written g into s m out → CircleFound g out m
+circle_found g into out s m T low W = record {
   none = λ z. absurd (omega (arith, T.some));
   some = λ pos. (
     W.room,
-    turn-circle g (nth into) s m T (take m out) size entry,
+    turn_circle g (nth into) s m T (take m out) size entry,
     turn-lowest g (nth into) s m T (take m out) size entry low,
   );
 }
@@ -267,5 +267,5 @@ circle-found g into out s m T low W = record {
     entry : (i : ℕ) → i < m → nth (take m out) i ≡ nth into (before g (nth into) s (m - i))
     entry i l = get_or-take m out i 0 l ∙ W.each i l
 
-pub circle-none : (g : Drawing) (out : List ℕ) → NoCircle g → CircleFound g out 0
-circle-none g out none = record { none = λ z. none; some = λ pos. absurd (omega arith) }
+pub circle_none : (g : Drawing) (out : List ℕ) → NoCircle g → CircleFound g out 0
+circle_none g out none = record { none = λ z. none; some = λ pos. absurd (omega arith) }

@@ -11,28 +11,28 @@ use lib.ListN.{length, set, length-set, replicate, length-replicate, get_or-repl
 use lib.Seq.{get_or-set_same, get_or-set_other}
 use Rattle.finite.specs.Sums.{sum, δ}
 use Rattle.finite.specs.Steps.{Inj}
-use Rattle.finite.proofs.Sum.{sum_mono, sum-const, sum-term, δ-eq, δ-other}
-use Rattle.finite.proofs.Perm.{inj-le}
+use Rattle.finite.proofs.Sum.{sum_mono, sum_const, sum_term, δ-eq, δ_other}
+use Rattle.finite.proofs.Perm.{inj_le}
 use Rattle.drawing.specs.Drawing.{Drawing, darts, arrows, head}
 use Rattle.drawing.specs.Conditions.{EventsKnown}
 use Rattle.words.specs.Tables.{nth}
 use Rattle.climb.specs.Peel.{toward, comers, Counted, Waiting, Peeled, Sourced, free, other}
-use Rattle.climb.proofs.Peels.{toward-enters, toward-leaves, toward-le, arrow-toward}
+use Rattle.climb.proofs.Peels.{toward-enters, toward-leaves, toward-le, arrow_toward}
 
 pub record Tallied (g : Drawing) (left : List ℕ) (a : ℕ) : Type 0 where
   pub size : length left ≡ g.events
   pub each : (v : ℕ) → v < g.events → nth left v ≡ sum (2 * a) (toward g v)
 
-pub tallied-start : (g : Drawing) (left : List ℕ) (k : ℕ) → left ≡ replicate k 0 → k ≡ g.events → Tallied g left 0
+pub tallied_start : (g : Drawing) (left : List ℕ) (k : ℕ) → left ≡ replicate k 0 → k ≡ g.events → Tallied g left 0
 unfolding sum
-tallied-start g left k q size = record {
+tallied_start g left k q size = record {
   size = ap length q ∙ length-replicate k 0 ∙ size;
   each = λ v l. ap (λ (x : List ℕ). nth x v) q ∙ get_or-replicate k v 0 0 (omega arith);
 }
 
 module _ (g : Drawing) (left : List ℕ) (a : ℕ) (T : Tallied g left a) where
-  pub tallied-few : (v : ℕ) → v < g.events → nth left v ≤ 2 * a
-  tallied-few v l = omega (arith, T.each v l, sum_mono (2 * a) (toward g v) (λ d. 1) (λ d h. toward-le g v d), sum-const (2 * a) 1)
+  pub tallied_few : (v : ℕ) → v < g.events → nth left v ≤ 2 * a
+  tallied_few v l = omega (arith, T.each v l, sum_mono (2 * a) (toward g v) (λ d. 1) (λ d h. toward-le g v d), sum_const (2 * a) 1)
 
   two : (v : ℕ) → sum (2 * (a + 1)) (toward g v) ≡ sum (2 * a) (toward g v) + δ (head g a) v
   unfolding sum
@@ -40,19 +40,19 @@ module _ (g : Drawing) (left : List ℕ) (a : ℕ) (T : Tallied g left a) where
       let e : 2 * (a + 1) ≡ suc (suc (2 * a)) = omega arith in
       rw e (omega (arith, toward-leaves g v (2 * a) (omega arith), toward-enters g v (suc (2 * a)) (omega arith)))
 
-  pub tallied-step : EventsKnown g → a < arrows g → (v x : ℕ) → v ≡ head g a → x ≡ nth left v → Tallied g (set left v (x + 1)) (a + 1)
-  tallied-step known l v x q r = record {
+  pub tallied_step : EventsKnown g → a < arrows g → (v x : ℕ) → v ≡ head g a → x ≡ nth left v → Tallied g (set left v (x + 1)) (a + 1)
+  tallied_step known l v x q r = record {
     size = length-set left v (x + 1) ∙ T.size;
     each = λ u h. elim (ℕ_discrete u v) [
       | yes e ↦
           let here : nth (set left v (x + 1)) u ≡ x + 1 = ap (nth (set left v (x + 1))) e ∙ get_or-set_same left v (x + 1) 0 (omega (arith, T.size)) in
           omega (arith, two u, T.each u h, ap (nth left) e, δ-eq (head g a) u (sym q ∙ sym e))
-      | no e ↦ omega (arith, two u, T.each u h, get_or-set_other left v u (x + 1) 0 e, δ-other (head g a) u (λ z. e (sym z ∙ sym q)))
+      | no e ↦ omega (arith, two u, T.each u h, get_or-set_other left v u (x + 1) 0 e, δ_other (head g a) u (λ z. e (sym z ∙ sym q)))
     ];
   }
 
-  pub tallied-done : darts g % 2 ≡ 0 → arrows g ≡ a → Counted g left
-  tallied-done even q =
+  pub tallied_done : darts g % 2 ≡ 0 → arrows g ≡ a → Counted g left
+  tallied_done even q =
       let e : 2 * a ≡ darts g = omega arith in
       record { size = T.size; each = λ v l. T.each v l ∙ ap (λ (k : ℕ). sum k (toward g v)) e }
 
@@ -65,8 +65,8 @@ pub record Upto (left list : List ℕ) (v t : ℕ) : Type 0 where
   pub gone : (i : ℕ) → i < t → nth left (nth list i) ≡ 0
   pub found : (u : ℕ) → u < v → nth left u ≡ 0 → (i : ℕ) × (i < t) × (nth list i ≡ u)
 
-pub upto-start : (left list : List ℕ) → length list ≡ length left → Upto left list 0 0
-upto-start left list q = record {
+pub upto_start : (left list : List ℕ) → length list ≡ length left → Upto left list 0 0
+upto_start left list q = record {
   room = q;
   inside = λ i l. absurd (omega arith);
   once = λ i j a b. absurd (omega arith);
@@ -75,8 +75,8 @@ upto-start left list q = record {
 }
 
 module _ (left list : List ℕ) (v t : ℕ) (U : Upto left list v t) where
-  pub upto-few : t ≤ v
-  upto-few = inj-le t v (nth list) U.once U.inside
+  pub upto_few : t ≤ v
+  upto_few = inj_le t v (nth list) U.once U.inside
 
   pub upto_step : v < length left → (list' : List ℕ) (t' : ℕ) → Sourced left list t v list' t' → Upto left list' (v + 1) t'
   upto_step l list' t' (other some S) = record {
@@ -90,7 +90,7 @@ module _ (left list : List ℕ) (v t : ℕ) (U : Upto left list v t) where
   upto_step l list' t' (free z) =
       let new : List ℕ = set list t v in
       let old : (i : ℕ) → i < t → nth new i ≡ nth list i = λ i h. get_or-set_other list t i v 0 (λ q. omega arith) in
-      let end : nth new t ≡ v = get_or-set_same list t v 0 (omega (arith, upto-few, U.room)) in
+      let end : nth new t ≡ v = get_or-set_same list t v 0 (omega (arith, upto_few, U.room)) in
       let fresh : (i : ℕ) → i < t → nth new i ≡ v → ⊥ = λ i h q. omega (arith, U.inside i h, old i h) in
       record {
         room = length-set list t v ∙ U.room;
@@ -116,9 +116,9 @@ module _ (left list : List ℕ) (v t : ℕ) (U : Upto left list v t) where
     found = λ u l z. U.found u (omega arith) z;
   }
 
-pub peeled-start : (g : Drawing) (left list : List ℕ) (t : ℕ) → EventsKnown g → Counted g left → Waiting left list t → Peeled g left list 0 t
+pub peeled_start : (g : Drawing) (left list : List ℕ) (t : ℕ) → EventsKnown g → Counted g left → Waiting left list t → Peeled g left list 0 t
 unfolding sum
-peeled-start g left list t known C W = record {
+peeled_start g left list t known C W = record {
   size = C.size;
   seen = omega arith;
   waiting = W;
@@ -126,8 +126,8 @@ peeled-start g left list t known C W = record {
       let b : nth list i < g.events = omega (arith, W.inside i l, C.size) in
       absurd (omega (
         arith,
-        sum-term (darts g) (toward g (head g a)) (2 * a) (omega arith),
-        arrow-toward g a,
+        sum_term (darts g) (toward g (head g a)) (2 * a) (omega arith),
+        arrow_toward g a,
         ap (comers g) q,
         C.each (nth list i) b,
         W.gone i l,

@@ -6,16 +6,16 @@ use Prim.Native.Nat.{ℕ, ◌+◌, ◌*◌, ◌%◌, ◌<◌, ◌≤◌}
 use native.Mathlib.Decide.{ℕ_discrete, dec_lt}
 use native.Mathlib.Omega.{arith}
 use Rattle.finite.specs.Steps.{Into}
-use Rattle.finite.proofs.Sum.{sum-const}
+use Rattle.finite.proofs.Sum.{sum_const}
 use Rattle.finite.proofs.Perm.{onto}
 use Rattle.drawing.specs.Drawing.{Drawing, darts, tail, head}
 use Rattle.drawing.specs.Conditions.{EventsKnown, NoCircle}
-use Rattle.drawing.proofs.Climb.{climbs-none}
+use Rattle.drawing.proofs.Climb.{climbs_none}
 use Rattle.words.specs.Tables.{nth}
 use Rattle.climb.specs.Peel.{between, Peeled}
 use Rattle.climb.specs.Back.{Kept}
-use Rattle.finite.proofs.Along.{along-missed}
-use Rattle.climb.proofs.Peels.{between-arrow, comers-between, waiting_few}
+use Rattle.finite.proofs.Along.{along_missed}
+use Rattle.climb.proofs.Peels.{between_arrow, comers-between, waiting_few}
 
 module _ (g : Drawing) (known : EventsKnown g) (left list : List ℕ) (t : ℕ) (P : Peeled g left list t t) where
   inside : Into t g.events (nth list)
@@ -45,9 +45,9 @@ module _ (g : Drawing) (known : EventsKnown g) (left list : List ℕ) (t : ℕ) 
       let same : x.0 ≡ z.0 = P.waiting.once x.0 z.0 x.1 (omega arith) (x.2 ∙ sym z.2) in
       omega arith
 
-  pub peeled-none : g.events ≤ t → NoCircle g
-  peeled-none all =
-      climbs-none g (λ v. rank all v (dec_lt v g.events)) (λ a l.
+  pub peeled_none : g.events ≤ t → NoCircle g
+  peeled_none all =
+      climbs_none g (λ v. rank all v (dec_lt v g.events)) (λ a l.
       ranked all (tail g a) (head g a) (dec_lt (tail g a) g.events) (dec_lt (head g a) g.events) (known (2 * a) (omega arith)) (known (2 * a + 1) (omega arith))
       (λ i h q. P.order i a h l (sym q)))
 
@@ -58,16 +58,16 @@ module _ (g : Drawing) (known : EventsKnown g) (left list : List ℕ) (t : ℕ) 
     | no z ↦ omega arith
   ]
 
-  pub peeled-kept : darts g % 2 ≡ 0 → t < g.events → Kept g left
-  peeled-kept even less = record {
+  pub peeled_kept : darts g % 2 ≡ 0 → t < g.events → Kept g left
+  peeled_kept even less = record {
     size = P.size;
     some =
-        let m = along-missed t g.events (nth list) (λ v. 1) inside P.waiting.once (omega (arith, sum-const t 1, sum-const g.events 1)) in
+        let m = along_missed t g.events (nth list) (λ v. 1) inside P.waiting.once (omega (arith, sum_const t 1, sum_const g.events 1)) in
         (m.0, m.1, unlisted m.0 m.1 m.3);
     each = λ v l pos.
         let m =
-        along-missed t g.events (nth list) (λ u. between g u v) inside P.waiting.once
+        along_missed t g.events (nth list) (λ u. between g u v) inside P.waiting.once
         (omega (arith, P.counts v l, comers-between g known v)) in
-        let a = between-arrow g m.0 v even m.2 in
+        let a = between_arrow g m.0 v even m.2 in
         (a.0, a.1, (a.2.1, rw a.2.0 (unlisted m.0 m.1 m.3)));
   }

@@ -42,16 +42,16 @@ module _ (g : Drawing) (c : ℕ) (left list : List ℕ) (t e k : ℕ) (ready : e
         let less : k + c % 2 - 1 ≡ nth left (event g (c + 1)) - 1 = omega (arith, count q) in
         put ∙ ap (λ (x : ℕ). set left x (k + c % 2 - 1)) (head q) ∙ ap (set left (event g (c + 1))) less
 
-    as-was : enters c ≡ 1 → left' ≡ left
-    as-was q =
+    as_was : enters c ≡ 1 → left' ≡ left
+    as_was q =
         let same : k + c % 2 - 1 ≡ nth left e = omega (arith, read) in
         put ∙ ap (set left e) same ∙ set-get_or left e 0
 
     -- the list is full: it has the event already
-    pub freed-full : length list ≤ t → Freed g c left list t left' list t
-    freed-full full = elim (ℕ_discrete (c % 2) 0) [
+    pub freed_full : length list ≤ t → Freed g c left list t left' list t
+    freed_full full = elim (ℕ_discrete (c % 2) 0) [
       | yes q ↦ rw (lower q) (fewer q (more q) (refl, λ i l. refl))
-      | no q ↦ rw (as-was (omega arith)) (entered (omega arith) (refl, λ i l. refl))
+      | no q ↦ rw (as_was (omega arith)) (entered (omega arith) (refl, λ i l. refl))
     ]
       where
         more : enters c ≡ 0 → 1 < nth left (event g (c + 1))
@@ -62,8 +62,8 @@ module _ (g : Drawing) (c : ℕ) (left list : List ℕ) (t e k : ℕ) (ready : e
       same : Same list t list'
       same = rw listed (set_same list t e)
 
-      pub freed-set : Freed g c left list t left' list' (t + r)
-      freed-set = elim (ℕ_discrete (c % 2) 0) [
+      pub freed_set : Freed g c left list t left' list' (t + r)
+      freed_set = elim (ℕ_discrete (c % 2) 0) [
         | yes q ↦ elim (dec_lt 1 (nth left (event g (c + 1)))) [
           | yes m ↦
               let stay : t + r ≡ t = omega (arith, zeros (omega (arith, count q))) in
@@ -74,5 +74,5 @@ module _ (g : Drawing) (c : ℕ) (left list : List ℕ) (t e k : ℕ) (ready : e
         ]
         | no q ↦
             let stay : t + r ≡ t = omega (arith, zeros (omega arith)) in
-            rw (as-was (omega arith), stay) (entered (omega arith) same)
+            rw (as_was (omega arith), stay) (entered (omega arith) same)
       ]

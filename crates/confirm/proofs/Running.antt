@@ -1,6 +1,6 @@
 -- A run of the test, and then of the judge on what it wrote. Assumes nothing.
---   stretch-within      the stretch written lies within the report
---   run-confirmed       the judge's answer to it is what `Confirmed` says
+--   stretch_within      the stretch written lies within the report
+--   run_confirmed       the judge's answer to it is what `Confirmed` says
 use mathlib.Core.Path.{◌≡◌, ap, subst, ◌∙◌}
 use mathlib.Core.Logic.{◌⊎◌, inl, inr}
 use mathlib.Core.List.{List}
@@ -12,7 +12,7 @@ use Rattle.rules.specs.Judge.{J}
 use Rattle.judge.specs.Verdicts.{verdict_of, case_of, Answered}
 use Rattle.judge.specs.declared.Verdict.{Verdict}
 use Rattle.judge.specs.declared.Verdict.TheVariants.{LabelsHold, CutHolds}
-use Rattle.theorems.proofs.Demands.{own-confirmed}
+use Rattle.theorems.proofs.Demands.{own_confirmed}
 use Rattle.confirm.specs.Confirmed.{Confirmed}
 
 -- an answer that says J0 or J1 is the case that says it
@@ -21,12 +21,12 @@ said s r a h (inl e) = inl (h.stands ∙ ap case_of e)
 said s r a h (inr e) = inr (h.stands ∙ ap case_of e)
 
 module _ (s r : List ℕ) (n w : ℕ) (r' : List ℕ) (O : Outcome s r n w r') where
-  pub stretch-within : w ≤ length r'
-  stretch-within = omega (arith, O.written, ap length O.left, length-append (report n O.entries) (drop w r))
+  pub stretch_within : w ≤ length r'
+  stretch_within = omega (arith, O.written, ap length O.left, length-append (report n O.entries) (drop w r))
 
   -- the judge reads the part from 0 to w
-  pub run-confirmed : (a : Verdict) → Answered s (take (w - 0) (drop 0 r')) a → Confirmed s r r' a
-  run-confirmed a j =
+  pub run_confirmed : (a : Verdict) → Answered s (take (w - 0) (drop 0 r')) a → Confirmed s r r' a
+  run_confirmed a j =
       let e : w - 0 ≡ w = omega arith in
       let h : Answered s (take w r') a = subst (λ (k : ℕ). Answered s (take k r') a) e j in
       record {
@@ -34,5 +34,5 @@ module _ (s r : List ℕ) (n w : ℕ) (r' : List ℕ) (O : Outcome s r n w r') w
         written = w;
         outcome = O;
         answered = h;
-        confirmed = λ g l. said s (take w r') a h (own-confirmed s r n w r' O l g (verdict_of a) h.judged);
+        confirmed = λ g l. said s (take w r') a h (own_confirmed s r n w r' O l g (verdict_of a) h.judged);
       }

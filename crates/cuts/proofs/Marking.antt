@@ -13,10 +13,10 @@ use borrow.Author.Count.{below_more}
 use lib.ListN.{length, set, length-set}
 use lib.Seq.{get_or-set_same, get_or-set_other}
 use Rattle.rules.specs.Words.{u16, words}
-use Rattle.rules.proofs.Bytes.{words-length, words-at}
+use Rattle.rules.proofs.Bytes.{words-length, words_at_lem}
 use Rattle.words.specs.Tables.{nth}
 use Rattle.cuts.specs.Marks.{Flags, Fit, Marked}
-use Rattle.finite.proofs.Lists.{all-at, all_of, ascending-at, ascending-of}
+use Rattle.finite.proofs.Lists.{all_at, all_of, ascending_at, ascending_of}
 
 -- q is p with the first i entries of l marked, all below from
 pub record Marking (p l : List ℕ) (q : List ℕ) (from i : ℕ) : Type 0 where
@@ -35,7 +35,7 @@ abbrev pub Next : List ℕ → ℕ → ℕ → Type 0
 Next l i e = (i < length l) × (e ≡ nth l i)
 
 pub reads : (s : List ℕ) (count i e : ℕ) → i < count → e ≡ u16 s (2 * i) → Next (words s 0 count) i e
-reads s count i e h r = (omega (arith, words-length s 0 count), r ∙ ap (u16 s) (omega arith) ∙ sym (words-at s 0 count i h))
+reads s count i e h r = (omega (arith, words-length s 0 count), r ∙ ap (u16 s) (omega arith) ∙ sym (words_at_lem s 0 count i h))
 
 module _ (p l : List ℕ) where
   pub start : Flags p → Marking p l p 0 0
@@ -56,7 +56,7 @@ module _ (p l : List ℕ) where
     pub done : length l ≤ i → Fit p l × Marked l q
     done h = (
       record {
-        ascending = ascending-of l (λ j k a b. m.ascends j k a (omega arith));
+        ascending = ascending_of l (λ j k a b. m.ascends j k a (omega arith));
         ones = all_of (λ v. (v < length p) × (nth p v ≡ 1)) l (λ j k. m.ones j (omega arith));
       },
       record {
@@ -71,20 +71,20 @@ module _ (p l : List ℕ) where
         where
           go : (from ≡ 0) ⊎ ((j : ℕ) × (j < i) × (from ≡ nth l j + 1)) → ⊥
           go (inl z) = omega arith
-          go (inr t) = omega (arith, t.2, ascending-at l f.ascending t.0 i t.1 n.0, n.1)
+          go (inr t) = omega (arith, t.2, ascending_at l f.ascending t.0 i t.1 n.0, n.1)
 
       pub unknown : length p ≤ e → Fit p l → ⊥
-      unknown h f = omega (arith, (all-at (λ v. (v < length p) × (nth p v ≡ 1)) l f.ones i n.0).0, n.1)
+      unknown h f = omega (arith, (all_at (λ v. (v < length p) × (nth p v ≡ 1)) l f.ones i n.0).0, n.1)
 
       pub other : from ≤ e → nth q e ≢ 1 → Fit p l → ⊥
-      other h d f = d (m.above e h ∙ ap (nth p) n.1 ∙ (all-at (λ v. (v < length p) × (nth p v ≡ 1)) l f.ones i n.0).1)
+      other h d f = d (m.above e h ∙ ap (nth p) n.1 ∙ (all_at (λ v. (v < length p) × (nth p v ≡ 1)) l f.ones i n.0).1)
 
       module _ (next : from ≤ e) (known : e < length p) (one : nth q e ≡ 1) where
-        at-e : nth (set q e 2) e ≡ 2
-        at-e = get_or-set_same q e 2 0 (omega (arith, m.size))
+        at_e : nth (set q e 2) e ≡ 2
+        at_e = get_or-set_same q e 2 0 (omega (arith, m.size))
 
-        off-e : (v : ℕ) → v ≢ e → nth (set q e 2) v ≡ nth q v
-        off-e v d = get_or-set_other q e v 2 0 d
+        off_e : (v : ℕ) → v ≢ e → nth (set q e 2) v ≡ nth q v
+        off_e v d = get_or-set_other q e v 2 0 d
 
         stepped : Marking p l (set q e 2) (e + 1) (i + 1)
         stepped =
@@ -94,13 +94,13 @@ module _ (p l : List ℕ) where
               ones = below_more (λ j. (nth l j < length p) × (nth p (nth l j) ≡ 1)) i m.ones (omega (arith, n.1), ap (nth p) (sym n.1) ∙ sym (m.above e next) ∙ one);
               marks =
                   below_more (λ j. nth (set q e 2) (nth l j) ≡ 2) i
-                  (λ j h. off-e (nth l j) (λ r. omega (arith, m.under j h)) ∙ m.marks j h)
-                  (ap (nth (set q e 2)) (sym n.1) ∙ at-e);
+                  (λ j h. off_e (nth l j) (λ r. omega (arith, m.under j h)) ∙ m.marks j h)
+                  (ap (nth (set q e 2)) (sym n.1) ∙ at_e);
               only =
                   λ v h r.
                   elim (ℕ_discrete v e) [
                     | yes a ↦ (i, omega arith, sym n.1 ∙ sym a)
-                    | no d ↦ let t = m.only v h (sym (off-e v d) ∙ r) in (t.0, omega (arith, t.1), t.2)
+                    | no d ↦ let t = m.only v h (sym (off_e v d) ∙ r) in (t.0, omega (arith, t.1), t.2)
                   ];
               ascends =
                   λ j k a b.
@@ -110,7 +110,7 @@ module _ (p l : List ℕ) where
                   ];
               under = below_more (λ j. nth l j < e + 1) i (λ j h. omega (arith, m.under j h)) (omega (arith, n.1));
               last = inr (i, omega arith, ap (λ (x : ℕ). x + 1) n.1);
-              above = λ v h. off-e v (λ r. omega arith) ∙ m.above v (omega arith);
+              above = λ v h. off_e v (λ r. omega arith) ∙ m.above v (omega arith);
             }
 
         pub step : (q' : List ℕ) → q' ≡ set q e 2 → Marking p l q' (e + 1) (i + 1)

@@ -1,5 +1,5 @@
 -- Rooms taken out at one corner, and corner by corner: the laws of `take_room` and of the loop of `touched_room`. Assumes nothing.
---   event-in, face-in    the corner's event and face have their entries
+--   event_in, face_in    the corner's event and face have their entries
 --   takes, passes        the corner's event is marked, or not
 --   start, step, done    before the first corner, one corner more, and after the last one
 use mathlib.Core.Path.{◌≡◌, refl, sym, ap, subst, ◌∙◌}
@@ -11,7 +11,7 @@ use native.Mathlib.Omega.{arith}
 use lib.ListN.{length, set, length-set}
 use lib.Seq.{get_or-set_same, get_or-set_other}
 use Rattle.finite.specs.Sums.{sum}
-use Rattle.finite.proofs.Sum.{sum-change}
+use Rattle.finite.proofs.Sum.{sum_change}
 use Rattle.drawing.specs.Drawing.{Drawing, darts, event, faces}
 use Rattle.rules.specs.Chart.{drawing}
 use Rattle.words.specs.Tables.{nth}
@@ -19,12 +19,12 @@ use Rattle.cuts.specs.Tables.{Sized}
 use Rattle.cuts.specs.Sweep.{Taken, Hit, Swept}
 
 module _ (g : Drawing) (here q : List ℕ) where
-  hit-more : (c f : ℕ) → Hit g here q c f → Hit g here q (c + 1) f
-  hit-more c f h = (h.0, omega (arith, h.1), h.2)
+  hit_more : (c f : ℕ) → Hit g here q c f → Hit g here q (c + 1) f
+  hit_more c f h = (h.0, omega (arith, h.1), h.2)
 
   -- by an earlier corner, unless by this one
-  hit-less : (c f : ℕ) → ((nth q (event g c) ≡ 2) × (nth here c ≡ f) → ⊥) → Hit g here q (c + 1) f → Hit g here q c f
-  hit-less c f d h =
+  hit_less : (c f : ℕ) → ((nth q (event g c) ≡ 2) × (nth here c ≡ f) → ⊥) → Hit g here q (c + 1) f → Hit g here q c f
+  hit_less c f d h =
       elim (ℕ_discrete h.0 c) [
         | yes e ↦ absurd (d (subst (λ (x : ℕ). (nth q (event g x) ≡ 2) × (nth here x ≡ f)) e h.2))
         | no a ↦ (h.0, omega (arith, h.1), h.2)
@@ -59,18 +59,18 @@ module _ (g : Drawing) (here q : List ℕ) where
                   λ f l k.
                   elim (ℕ_discrete f f₀) [
                     | yes e ↦ ap (nth s') e ∙ same
-                    | no d ↦ other f d ∙ w.out f l (hit-less c f (λ z. d (sym z.1)) k)
+                    | no d ↦ other f d ∙ w.out f l (hit_less c f (λ z. d (sym z.1)) k)
                   ];
-              kept = λ f l k. other f (λ e. k (c, omega arith, (h.0, sym e))) ∙ w.kept f l (λ z. k (hit-more c f z));
-              whole = omega (arith, w.whole, h.1, sum-change (faces g) (nth s) (nth s') f₀ inside (λ f l d. sym (other f d)));
+              kept = λ f l k. other f (λ e. k (c, omega arith, (h.0, sym e))) ∙ w.kept f l (λ z. k (hit_more c f z));
+              whole = omega (arith, w.whole, h.1, sum_change (faces g) (nth s) (nth s') f₀ inside (λ f l d. sym (other f d)));
             }
         -- nothing is hit here
         go (inr h) =
             record {
               size = ap length h.2 ∙ w.size;
               small = omega (arith, w.small, t.small);
-              out = λ f l k. ap (λ (z : List ℕ). nth z f) h.2 ∙ w.out f l (hit-less c f (λ z. h.0 z.0) k);
-              kept = λ f l k. ap (λ (z : List ℕ). nth z f) h.2 ∙ w.kept f l (λ z. k (hit-more c f z));
+              out = λ f l k. ap (λ (z : List ℕ). nth z f) h.2 ∙ w.out f l (hit_less c f (λ z. h.0 z.0) k);
+              kept = λ f l k. ap (λ (z : List ℕ). nth z f) h.2 ∙ w.kept f l (λ z. k (hit_more c f z));
               whole = omega (arith, w.whole, h.1, ap (λ (z : List ℕ). sum (faces g) (nth z)) h.2);
             }
 
@@ -81,14 +81,14 @@ module _ (s : List ℕ) (n : ℕ) (here q spare : List ℕ) (z : Sized s n here 
   inside : c < darts (drawing s)
   inside = omega (arith, z.corners.shape.darts)
 
-  pub corner-in : nth here c < faces (drawing s)
-  corner-in = z.corners.keyed.inside c inside
+  pub corner_in : nth here c < faces (drawing s)
+  corner_in = z.corners.keyed.inside c inside
 
-  pub event-in : (e : ℕ) → e ≡ event (drawing s) c → e < length q
-  event-in e r = omega (arith, z.events, z.corners.known c inside)
+  pub event_in : (e : ℕ) → e ≡ event (drawing s) c → e < length q
+  event_in e r = omega (arith, z.events, z.corners.known c inside)
 
-  pub face-in : (f : ℕ) → f ≡ nth here c → f < length spare
-  face-in f r = omega (arith, z.keys, r, corner-in)
+  pub face_in : (f : ℕ) → f ≡ nth here c → f < length spare
+  face_in f r = omega (arith, z.keys, r, corner_in)
 
   pub takes : (e f r : ℕ) (s' : List ℕ) → e ≡ event (drawing s) c → nth q e ≡ 2 → f ≡ nth here c → r ≡ nth spare f → r < 65536 → s' ≡ set spare f 0
       → Taken (drawing s) here q spare c r s'

@@ -7,33 +7,33 @@ use native.Mathlib.Omega.{arith}
 use lib.ListN.{length}
 use Rattle.rules.specs.Tests.{short, tests, report_room, Given}
 use Rattle.rules.specs.Report.{Run, Outcome}
-use Rattle.rules.proofs.Chain.{given-highest}
+use Rattle.rules.proofs.Chain.{given_highest}
 use Rattle.chart.specs.Form.{form_tests}
 use Rattle.survey.specs.Past.{order_tests}
 use Rattle.survey.proofs.Passing.{order_small, at_zero}
 use Rattle.findings.specs.Stretch.{past_tests}
-use Rattle.findings.proofs.Running.{silent-run, run-as, run-before, run-after}
+use Rattle.findings.proofs.Running.{silent_run, run_as, run_before, run_after}
 use Rattle.desk.specs.Stretch.{drawn_tests}
 
 -- the tests of the form give no number above 8
 pub form_small : (s : List ℕ) (r : ℕ) → Given form_tests s 0 r → r ≤ 8
-form_small s r g = given-highest form_tests s 0 r g
+form_small s r g = given_highest form_tests s 0 r g
 
 -- a fault of tests 9 and 10 writes nothing
-pub order-run : (s b : List ℕ) (n : ℕ) → n ≢ 0 → Given order_tests s 0 n → Run drawn_tests s b n 0 b
-order-run s b n some g =
-    run-before order_tests past_tests s b n 0 b some (silent-run order_tests s b n g some (omega (arith, order_small s n g)))
+pub order_run : (s b : List ℕ) (n : ℕ) → n ≢ 0 → Given order_tests s 0 n → Run drawn_tests s b n 0 b
+order_run s b n some g =
+    run_before order_tests past_tests s b n 0 b some (silent_run order_tests s b n g some (omega (arith, order_small s n g)))
 
 -- and without one the later tests run
-pub past-run : (s b : List ℕ) (r n w : ℕ) (b' : List ℕ) → r ≡ 0 → Given order_tests s 0 r → Run past_tests s b n w b' → Run drawn_tests s b n w b'
-past-run s b r n w b' z g R = run-after order_tests past_tests s b n w b' (at_zero order_tests s r z g) R
+pub past_run : (s b : List ℕ) (r n w : ℕ) (b' : List ℕ) → r ≡ 0 → Given order_tests s 0 r → Run past_tests s b n w b' → Run drawn_tests s b n w b'
+past_run s b r n w b' z g R = run_after order_tests past_tests s b n w b' (at_zero order_tests s r z g) R
 
 -- with report room enough, the tests 2 to 14 give the outcome
-pub room-outcome : (s b : List ℕ) (n w : ℕ) (b' : List ℕ) → report_room ≤ length b → Run (form_tests ++ drawn_tests) s b n w b' → Outcome s b n w b'
-room-outcome s b n w b' l R = run-as tests s b n w b' (inr (l, R.given)) R
+pub room_outcome : (s b : List ℕ) (n w : ℕ) (b' : List ℕ) → report_room ≤ length b → Run (form_tests ++ drawn_tests) s b n w b' → Outcome s b n w b'
+room_outcome s b n w b' l R = run_as tests s b n w b' (inr (l, R.given)) R
 
 -- and without, it is 1
-pub short-outcome : (s b : List ℕ) → length b < report_room → Outcome s b 1 0 b
-short-outcome s b l =
-    let R = silent-run (short ∷ []) s b 1 (inl ((λ h. omega arith), refl)) (λ e. omega arith) (omega arith) in
+pub short_outcome : (s b : List ℕ) → length b < report_room → Outcome s b 1 0 b
+short_outcome s b l =
+    let R = silent_run (short ∷ []) s b 1 (inl ((λ h. omega arith), refl)) (λ e. omega arith) (omega arith) in
     record { given = inl ((λ h. omega arith), refl); entries = R.entries; allowed = R.allowed; written = R.written; left = R.left }

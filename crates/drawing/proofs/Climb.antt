@@ -15,10 +15,10 @@ use Rattle.finite.specs.Sums.{sum}
 use Rattle.finite.specs.Steps.{iter, Inj}
 use Rattle.finite.specs.Lists.{All, Distinct, LowestFirst}
 use Rattle.finite.proofs.Decide.{any?, ¬?, ◌×?◌}
-use Rattle.finite.proofs.Sum.{sum-term, sum-change}
+use Rattle.finite.proofs.Sum.{sum_term, sum_change}
 use Rattle.finite.proofs.Perm.{pigeon}
-use Rattle.finite.proofs.Filled.{table, table-length, table_at}
-use Rattle.finite.proofs.Orbit.{iter-add, first, cycle, least-le, least-met}
+use Rattle.finite.proofs.Filled.{table, table_length, table_at}
+use Rattle.finite.proofs.Orbit.{iter-add, first, cycle, least-le, least_met}
 use Rattle.drawing.specs.Drawing.{Drawing, arrows, tail, head}
 use Rattle.drawing.specs.Conditions.{EventsKnown, Runs, Round, Circle, NoCircle}
 
@@ -31,8 +31,8 @@ climbed : (g : Drawing) (rank : ℕ → ℕ) → Climbs g rank → (u : ℕ) (l 
 climbed g rank c u [] v h = omega (arith, ap rank h)
 climbed g rank c u (a ∷ l) v h = omega (arith, c a h.0, ap rank h.1, climbed g rank c (head g a) l v h.2)
 
-pub climbs-none : (g : Drawing) (rank : ℕ → ℕ) → Climbs g rank → NoCircle g
-climbs-none g rank c l C = go l C.round
+pub climbs_none : (g : Drawing) (rank : ℕ → ℕ) → Climbs g rank → NoCircle g
+climbs_none g rank c l C = go l C.round
   where
     go : (l : List ℕ) → Round g l → ⊥
     go [] r = r
@@ -54,9 +54,9 @@ distinct_of f (x ∷ l) inj = (
   distinct_of f l (λ i j a b q. let z : suc i ≡ suc j = inj (suc i) (suc j) (omega arith) (omega arith) q in omega arith),
 )
 
-lowest-of : (l : List ℕ) → ((i : ℕ) → i < length l → at l 0 ≤ at l i) → LowestFirst l
-lowest-of [] h = tt
-lowest-of (x ∷ l) h = rw (map-id l) at (all_of (λ y. x ≤ y) (λ a. a) l (λ i k. h (suc i) (omega arith)))
+lowest_of : (l : List ℕ) → ((i : ℕ) → i < length l → at l 0 ≤ at l i) → LowestFirst l
+lowest_of [] h = tt
+lowest_of (x ∷ l) h = rw (map-id l) at (all_of (λ y. x ≤ y) (λ a. a) l (λ i k. h (suc i) (omega arith)))
 
 runs_of : (g : Drawing) (a : ℕ) (l : List ℕ) (v : ℕ) → ((i : ℕ) → i < length (a ∷ l) → at (a ∷ l) i < arrows g)
     → ((i : ℕ) → suc i < length (a ∷ l) → head g (at (a ∷ l) i) ≡ tail g (at (a ∷ l) (suc i))) → head g (at (a ∷ l) (length l)) ≡ v → Runs g (tail g a) (a ∷ l) v
@@ -67,10 +67,10 @@ runs_of g a (b ∷ l) v known joins last = (
   rw (joins 0 (omega arith)) (runs_of g b l v (λ i k. known (suc i) (omega arith)) (λ i k. joins (suc i) (omega arith)) last),
 )
 
-pub round-of : (g : Drawing) (l : List ℕ) → 0 < length l → ((i : ℕ) → i < length l → at l i < arrows g)
+pub round_of : (g : Drawing) (l : List ℕ) → 0 < length l → ((i : ℕ) → i < length l → at l i < arrows g)
     → ((i : ℕ) → suc i < length l → head g (at l i) ≡ tail g (at l (suc i))) → head g (at l (length l - 1)) ≡ tail g (at l 0) → Round g l
-round-of g [] some known joins closes = absurd (not-suc-le-zero some)
-round-of g (a ∷ l) some known joins closes =
+round_of g [] some known joins closes = absurd (not-suc-le-zero some)
+round_of g (a ∷ l) some known joins closes =
     let e : length (a ∷ l) - 1 ≡ length l = omega arith in
     runs_of g a l (tail g a) known joins (rw e at closes)
 
@@ -114,8 +114,8 @@ module _ (g : Drawing) (into : ℕ → ℕ) (s m : ℕ) (T : Turn g into s m) wh
       T.fresh (m - j + i) (omega arith) (omega arith)
       (iter-add (back g into) (m - j) i s ∙ ap (iter (back g into) (m - j)) q ∙ sym (iter-add (back g into) (m - j) j s) ∙ ap y split ∙ T.returns)
 
-  heads-once : (i j : ℕ) → i < m → j < m → y (m - i) ≡ y (m - j) → i ≡ j
-  heads-once i j a b q = elim (dec_lt i j) [
+  heads_once : (i j : ℕ) → i < m → j < m → y (m - i) ≡ y (m - j) → i ≡ j
+  heads_once i j a b q = elim (dec_lt i j) [
     | yes l ↦ absurd (less i j l b q)
     | no l ↦ elim (dec_lt j i) [ yes l' ↦ absurd (less j i l' a (sym q)) | no l' ↦ omega arith ]
   ]
@@ -136,18 +136,18 @@ module _ (g : Drawing) (into : ℕ → ℕ) (s m : ℕ) (T : Turn g into s m) wh
     unfolding iter
     tail_at i h = ap (tail g) (entry i h)
 
-    tails-once : (i j : ℕ) → i < m → j < m → tail g (at l i) ≡ tail g (at l j) → i ≡ j
-    tails-once i j a b q = heads-once i j a b (up (m - i) ∙ ap (iter (back g into) (m - 1)) (sym (tail_at i a) ∙ q ∙ tail_at j b) ∙ sym (up (m - j)))
+    tails_once : (i j : ℕ) → i < m → j < m → tail g (at l i) ≡ tail g (at l j) → i ≡ j
+    tails_once i j a b q = heads_once i j a b (up (m - i) ∙ ap (iter (back g into) (m - 1)) (sym (tail_at i a) ∙ q ∙ tail_at j b) ∙ sym (up (m - j)))
       where
         up : (k : ℕ) → y k ≡ iter (back g into) (m - 1) (y (suc k))
         up k =
             let e : m - 1 + suc k ≡ k + m = omega (arith, T.some) in
             sym (again k) ∙ ap y (sym e) ∙ iter-add (back g into) (m - 1) (suc k) s
 
-    pub turn-circle : Circle g l
-    turn-circle = record {
-      distinct = rw (map-id l) at (distinct_of (λ a. a) l (λ i j a b q. tails-once i j (omega arith) (omega arith) (ap (tail g) q)));
-      round = round-of g l (omega (arith, T.some)) (λ i h. rw (entry i (omega arith)) (T.each (m - i)).0)
+    pub turn_circle : Circle g l
+    turn_circle = record {
+      distinct = rw (map-id l) at (distinct_of (λ a. a) l (λ i j a b q. tails_once i j (omega arith) (omega arith) (ap (tail g) q)));
+      round = round_of g l (omega (arith, T.some)) (λ i h. rw (entry i (omega arith)) (T.each (m - i)).0)
           (λ i h.
           let e : m - i ≡ suc (m - suc i) = omega arith in
           head_at i (omega arith) ∙ ap y e ∙ sym (tail_at (suc i) (omega arith)))
@@ -158,12 +158,12 @@ module _ (g : Drawing) (into : ℕ → ℕ) (s m : ℕ) (T : Turn g into s m) wh
     }
 
     -- no event is passed twice
-    pub turn-tails : Distinct (map (tail g) l)
-    turn-tails = distinct_of (tail g) l (λ i j a b q. tails-once i j (omega arith) (omega arith) q)
+    pub turn_tails : Distinct (map (tail g) l)
+    turn_tails = distinct_of (tail g) l (λ i j a b q. tails_once i j (omega arith) (omega arith) q)
 
     pub turn-lowest : ((k : ℕ) → into s ≤ into (y k)) → LowestFirst l
     turn-lowest low =
-        lowest-of l (λ i h.
+        lowest_of l (λ i h.
         let some : 0 < m = T.some in
         let e : m - 0 ≡ m = omega arith in
         let z : at l 0 ≡ into s = entry 0 some ∙ ap (λ (k : ℕ). into (y k)) e ∙ ap into T.returns in
@@ -172,8 +172,8 @@ module _ (g : Drawing) (into : ℕ → ℕ) (s m : ℕ) (T : Turn g into s m) wh
 -- ---- some turn, and its lowest arrow
 
 module _ (g : Drawing) (into : ℕ → ℕ) where
-  pub first-turn : (s : ℕ) → Turning g into s → (m : ℕ) × Turn g into s m
-  first-turn s T = go (first (suc T.span) Back (λ k. dec_lt 0 k ×? ℕ_discrete (before g into s k) s))
+  pub first_turn : (s : ℕ) → Turning g into s → (m : ℕ) × Turn g into s m
+  first_turn s T = go (first (suc T.span) Back (λ k. dec_lt 0 k ×? ℕ_discrete (before g into s k) s))
     where
       Back : ℕ → Type 0
       Back k = (0 < k) × (before g into s k ≡ s)
@@ -183,8 +183,8 @@ module _ (g : Drawing) (into : ℕ → ℕ) where
       go (inr none) = absurd (none T.span (omega arith) (T.some, T.returns))
 
   -- an event that turns takes every event before it along
-  pub turning-before : (s k : ℕ) → Turning g into s → Turning g into (before g into s k)
-  turning-before s k T = record {
+  pub turning_before : (s k : ℕ) → Turning g into s → Turning g into (before g into s k)
+  turning_before s k T = record {
     each = λ j. rw (iter-add (back g into) j k s) at (T.each (j + k));
     span = T.span;
     some = T.some;
@@ -194,8 +194,8 @@ module _ (g : Drawing) (into : ℕ → ℕ) where
   }
 
   -- as many steps back as there are events lead onto a circle
-  pub far-turns : (n e : ℕ) → ((k : ℕ) → Enters g into (before g into e k) × (before g into e k < n)) → Turning g into (before g into e n)
-  far-turns n e each =
+  pub far_turns : (n e : ℕ) → ((k : ℕ) → Enters g into (before g into e k) × (before g into e k < n)) → Turning g into (before g into e n)
+  far_turns n e each =
       let t = pigeon (suc n) n (before g into e) (λ k h. (each k).1) (omega arith) in
       let j : ℕ = t.0 in
       let i : ℕ = t.2.0 in
@@ -215,11 +215,11 @@ module _ (g : Drawing) (into : ℕ → ℕ) where
   abbrev pub Lowest : ℕ → Type 0
   Lowest s = (k : ℕ) → into s ≤ into (before g into s k)
 
-  lowest-turning : (s : ℕ) → Turning g into s → (r : ℕ) × Turning g into r × Lowest r
-  lowest-turning s T =
-      let t = least-met T.span (λ k. into (before g into s k)) in (
+  lowest_turning : (s : ℕ) → Turning g into s → (r : ℕ) × Turning g into r × Lowest r
+  lowest_turning s T =
+      let t = least_met T.span (λ k. into (before g into s k)) in (
         before g into s t.0,
-        turning-before s t.0 T,
+        turning_before s t.0 T,
         λ k.
             let c = cycle (back g into) s T.span T.some T.returns (k + t.0) in
             let h : c.0 < T.span = c.1 in
@@ -255,17 +255,17 @@ module _ (g : Drawing) (S : ℕ → ℕ) (small : (v : ℕ) → 0 < S v → v < 
   inside v l zero = l
   inside v l (suc k) = let u = before g into v k in (chosen u (dec_lt 0 (S u)) (inside v l k)).2
 
-  pub set-circle : (v : ℕ) → 0 < S v → (l : List ℕ) × Simple g l
-  set-circle v l =
-      let T = far-turns g into g.events v (λ k. let u = before g into v k in let t = chosen u (dec_lt 0 (S u)) (inside v l k) in ((t.0, t.1), small u (inside v l k))) in
-      let r = lowest-turning g into _ T in
-      let t = first-turn g into r.0 r.1 in
+  pub set_circle : (v : ℕ) → 0 < S v → (l : List ℕ) × Simple g l
+  set_circle v l =
+      let T = far_turns g into g.events v (λ k. let u = before g into v k in let t = chosen u (dec_lt 0 (S u)) (inside v l k) in ((t.0, t.1), small u (inside v l k))) in
+      let r = lowest_turning g into _ T in
+      let t = first_turn g into r.0 r.1 in
       let f : ℕ → ℕ = λ i. into (before g into r.0 (t.0 - i)) in (
         table t.0 f,
         record {
-          circle = turn-circle g into r.0 t.0 t.1 (table t.0 f) (table-length t.0 f) (table_at t.0 f);
-          lowest = turn-lowest g into r.0 t.0 t.1 (table t.0 f) (table-length t.0 f) (table_at t.0 f) r.2;
-          tails = turn-tails g into r.0 t.0 t.1 (table t.0 f) (table-length t.0 f) (table_at t.0 f);
+          circle = turn_circle g into r.0 t.0 t.1 (table t.0 f) (table_length t.0 f) (table_at t.0 f);
+          lowest = turn-lowest g into r.0 t.0 t.1 (table t.0 f) (table_length t.0 f) (table_at t.0 f) r.2;
+          tails = turn_tails g into r.0 t.0 t.1 (table t.0 f) (table_length t.0 f) (table_at t.0 f);
         },
       )
 
@@ -279,21 +279,21 @@ raised : (ℕ → ℕ) → (v x : ℕ) → Dec (x ≡ v) → ℕ
 raised rank v x (yes q) = 0
 raised rank v x (no q) = suc (rank x)
 
-without-kept : (S : ℕ → ℕ) (v x : ℕ) (d : Dec (x ≡ v)) → (x ≡ v → ⊥) → without S v x d ≡ S x
+without_kept : (S : ℕ → ℕ) (v x : ℕ) (d : Dec (x ≡ v)) → (x ≡ v → ⊥) → without S v x d ≡ S x
 unfolding without
-without-kept S v x (yes q) h = absurd (h q)
-without-kept S v x (no q) h = refl
+without_kept S v x (yes q) h = absurd (h q)
+without_kept S v x (no q) h = refl
 
 without_gone : (S : ℕ → ℕ) (v x : ℕ) (d : Dec (x ≡ v)) → x ≡ v → without S v x d ≡ 0
 unfolding without
 without_gone S v x (yes q) h = refl
 without_gone S v x (no q) h = absurd (q h)
 
-raised-less : (rank : ℕ → ℕ) (v x y : ℕ) (d : Dec (x ≡ v)) (e : Dec (y ≡ v)) → (y ≡ v → ⊥) → ((x ≡ v → ⊥) → rank x < rank y) → raised rank v x d < raised rank v y e
+raised_less : (rank : ℕ → ℕ) (v x y : ℕ) (d : Dec (x ≡ v)) (e : Dec (y ≡ v)) → (y ≡ v → ⊥) → ((x ≡ v → ⊥) → rank x < rank y) → raised rank v x d < raised rank v y e
 unfolding raised
-raised-less rank v x y d (yes q) h up = absurd (h q)
-raised-less rank v x y (yes p) (no q) h up = omega arith
-raised-less rank v x y (no p) (no q) h up = omega (arith, up p)
+raised_less rank v x y d (yes q) h up = absurd (h q)
+raised_less rank v x y (yes p) (no q) h up = omega arith
+raised_less rank v x y (no p) (no q) h up = omega (arith, up p)
 
 module _ (g : Drawing) (known : EventsKnown g) (none : NoCircle g) where
   abbrev ClimbsIn : (ℕ → ℕ) → (ℕ → ℕ) → Type 0
@@ -303,37 +303,37 @@ module _ (g : Drawing) (known : EventsKnown g) (none : NoCircle g) where
   Entry? S v = any? (arrows g) (λ a. (head g a ≡ v) × (0 < S (tail g a))) (λ a. ℕ_discrete (head g a) v ×? dec_lt 0 (S (tail g a)))
 
   climbing : (k : ℕ) (S : ℕ → ℕ) → sum g.events S ≤ k → ((v : ℕ) → 0 < S v → v < g.events) → (rank : ℕ → ℕ) × ClimbsIn S rank
-  climbing zero S few small = (λ v. 0, λ a l t h. absurd (omega (arith, sum-term g.events S (tail g a) (small (tail g a) t))))
+  climbing zero S few small = (λ v. 0, λ a l t h. absurd (omega (arith, sum_term g.events S (tail g a) (small (tail g a) t))))
   climbing (suc k) S few small =
       elim (any? g.events (λ v. (0 < S v) × (Entry g S v → ⊥)) (λ v. dec_lt 0 (S v) ×? ¬? (Entry? S v))) [
         | yes t ↦
             let v : ℕ = t.0 in
             let S' : ℕ → ℕ = λ x. without S v x (ℕ_discrete x v) in
             let gone : S' v ≡ 0 = without_gone S v v (ℕ_discrete v v) refl in
-            let kept : (x : ℕ) → (x ≡ v → ⊥) → S' x ≡ S x = λ x. without-kept S v x (ℕ_discrete x v) in
+            let kept : (x : ℕ) → (x ≡ v → ⊥) → S' x ≡ S x = λ x. without_kept S v x (ℕ_discrete x v) in
             let r = climbing k S'
-            (omega (arith, sum-change g.events S S' v t.1 (λ i l d. sym (kept i d)), t.2.0))
+            (omega (arith, sum_change g.events S S' v t.1 (λ i l d. sym (kept i d)), t.2.0))
             (λ x h. elim (ℕ_discrete x v) [ yes e ↦ rw e t.1 | no e ↦ small x (rw (kept x e) at h) ]) in (
               λ x. raised r.0 v x (ℕ_discrete x v),
               λ a l from to.
                   let other : head g a ≡ v → ⊥ = λ q. t.2.1 (a, l, (q, from)) in
-                  raised-less r.0 v (tail g a) (head g a) (ℕ_discrete (tail g a) v) (ℕ_discrete (head g a) v) other
+                  raised_less r.0 v (tail g a) (head g a) (ℕ_discrete (tail g a) v) (ℕ_discrete (head g a) v) other
                   (λ d. r.1 a l (rw (kept (tail g a) d) from) (rw (kept (head g a) other) to)),
             )
         | no all ↦ (
           λ v. 0,
           λ a l from to.
-              absurd (let c = set-circle g S small (λ v h. elim (Entry? S v) [ yes e ↦ e | no e ↦ absurd (all (v, small v h, (h, e))) ]) (head g a) to in none c.0 c.1.circle),
+              absurd (let c = set_circle g S small (λ v h. elim (Entry? S v) [ yes e ↦ e | no e ↦ absurd (all (v, small v h, (h, e))) ]) (head g a) to in none c.0 c.1.circle),
         )
       ]
 
   -- all events: those at which the number of events less v is not 0
-  pub climbing-some : (rank : ℕ → ℕ) × Climbs g rank
-  climbing-some =
+  pub climbing_some : (rank : ℕ → ℕ) × Climbs g rank
+  climbing_some =
       let S : ℕ → ℕ = λ v. g.events - v in
       let r = climbing (sum g.events S) S (omega arith) (λ v h. omega arith) in
       (r.0, λ a l. let t = known (2 * a) (omega arith) in let h = known (2 * a + 1) (omega arith) in r.1 a l (omega (arith, t)) (omega (arith, h)))
 
 -- there is no circle exactly if some numbering climbs
-pub no-circle-climbs : (g : Drawing) → EventsKnown g → NoCircle g ↔ ((rank : ℕ → ℕ) × Climbs g rank)
-no-circle-climbs g known = (climbing-some g known, λ r. climbs-none g r.0 r.1)
+pub no_circle_climbs : (g : Drawing) → EventsKnown g → NoCircle g ↔ ((rank : ℕ → ℕ) × Climbs g rank)
+no_circle_climbs g known = (climbing_some g known, λ r. climbs_none g r.0 r.1)

@@ -14,14 +14,14 @@ use native.Mathlib.Numerals.{add-one}
 use native.Mathlib.Omega.{arith}
 use Rattle.finite.specs.Sums.{sum, δ, class}
 use Rattle.finite.specs.Steps.{iter, Inj, Into}
-use Rattle.finite.proofs.Sum.{sum-cong, sum_mono, sum-const, sum-tight, δ-eq}
-use Rattle.finite.proofs.Class.{class-total, class-zero, class-term}
-use Rattle.finite.proofs.Perm.{fibre, fibre-le, fibre-total, inj-le, reindex}
-use Rattle.finite.proofs.Along.{fibre-none, fibre-met, along-le, along-all, along-class}
-use Rattle.finite.proofs.Orbit.{cycle, fresh-inj, iter-add, open-inj}
+use Rattle.finite.proofs.Sum.{sum_cong, sum_mono, sum_const, sum_tight, δ-eq}
+use Rattle.finite.proofs.Class.{class_total, class-zero, class_term}
+use Rattle.finite.proofs.Perm.{fibre, fibre_le, fibre_total, inj_le, reindex}
+use Rattle.finite.proofs.Along.{fibre_none, fibre_met, along_le, along_all, along_class}
+use Rattle.finite.proofs.Orbit.{cycle, fresh_inj, iter-add, open_inj}
 use Rattle.drawing.specs.Drawing.{Drawing, darts, event, after}
 use Rattle.drawing.specs.Conditions.{EventsKnown, Rings}
-use Rattle.drawing.proofs.Rounds.{Kept, goes-inside, goes-there, after-inj}
+use Rattle.drawing.proofs.Rounds.{Kept, goes_inside, goes_there, after_inj}
 
 unfoldable pub around : Drawing → ℕ → ℕ
 around g v = class (darts g) (event g) (λ d. 1) v
@@ -46,60 +46,60 @@ abbrev pub Turns : Drawing → (ℕ → ℕ) → ℕ → Type 0
 Turns g x k = Into k g.events x × Inj k x
 
 -- the successors in rings are the darts in another order
-pub rings-level : (g : Drawing) → Rings g → Level g
-rings-level g R = reindex (darts g) (after g) (after-inj g R) R.inside (λ d. d)
+pub rings_level : (g : Drawing) → Rings g → Level g
+rings_level g R = reindex (darts g) (after g) (after_inj g R) R.inside (λ d. d)
 
 -- every dart is of one event
-pub around-total : (g : Drawing) → EventsKnown g → sum g.events (around g) ≡ darts g
+pub around_total : (g : Drawing) → EventsKnown g → sum g.events (around g) ≡ darts g
 unfolding around
-around-total g E = omega (arith, class-total (darts g) g.events (event g) (λ d. 1) E, sum-const (darts g) 1)
+around_total g E = omega (arith, class_total (darts g) g.events (event g) (λ d. 1) E, sum_const (darts g) 1)
 
 module _ (g : Drawing) (K : Kept g) (d : ℕ) (l : d < darts g) where
   -- ---- a walk of m steps from d that meets no dart twice
 
   module _ (m : ℕ) (once : Inj m (λ j. iter (after g) j d)) where
     into : (j : ℕ) → j < m → iter (after g) j d < darts g
-    into j h = goes-inside g K j d l
+    into j h = goes_inside g K j d l
 
     -- it meets a dart of its event at most once, and no other dart
     held : (e : ℕ) → e < darts g → fibre m (λ j. iter (after g) j d) e ≤ δ (event g e) (event g d) * 1
     held e h = elim (ℕ_discrete (event g e) (event g d)) [
-      | yes q ↦ omega (arith, fibre-le m (λ j. iter (after g) j d) once e, δ-eq (event g e) (event g d) q)
-      | no q ↦ omega (arith, fibre-none m (λ j. iter (after g) j d) e (λ j i r. q (ap (event g) (sym r) ∙ goes-there g K j d l)))
+      | yes q ↦ omega (arith, fibre_le m (λ j. iter (after g) j d) once e, δ-eq (event g e) (event g d) q)
+      | no q ↦ omega (arith, fibre_none m (λ j. iter (after g) j d) e (λ j i r. q (ap (event g) (sym r) ∙ goes_there g K j d l)))
     ]
 
-    pub walk-most : m ≤ around g (event g d)
+    pub walk_most : m ≤ around g (event g d)
     unfolding around class
-    walk-most = omega (
+    walk_most = omega (
       arith,
-      fibre-total m (darts g) (λ j. iter (after g) j d) into,
+      fibre_total m (darts g) (λ j. iter (after g) j d) into,
       sum_mono (darts g) (fibre m (λ j. iter (after g) j d)) (λ e. δ (event g e) (event g d) * 1) held,
     )
 
     -- as many steps as the event has darts meet each of them
-    pub walk-whole : m ≡ around g (event g d) → (e : ℕ) → e < darts g → event g e ≡ event g d → (j : ℕ) × (j < m) × (iter (after g) j d ≡ e)
+    pub walk_whole : m ≡ around g (event g d) → (e : ℕ) → e < darts g → event g e ≡ event g d → (j : ℕ) × (j < m) × (iter (after g) j d ≡ e)
     unfolding around class
-    walk-whole q e h r =
+    walk_whole q e h r =
         let tight =
-        sum-tight (darts g) (fibre m (λ j. iter (after g) j d)) (λ x. δ (event g x) (event g d) * 1) held
-        (fibre-total m (darts g) (λ j. iter (after g) j d) into ∙ q) e h in
-        fibre-met m (λ j. iter (after g) j d) e (omega (arith, tight, δ-eq (event g e) (event g d) r))
+        sum_tight (darts g) (fibre m (λ j. iter (after g) j d)) (λ x. δ (event g x) (event g d) * 1) held
+        (fibre_total m (darts g) (λ j. iter (after g) j d) into ∙ q) e h in
+        fibre_met m (λ j. iter (after g) j d) e (omega (arith, tight, δ-eq (event g e) (event g d) r))
 
   -- ---- a walk that comes back to d
 
   module _ (k : ℕ) (C : Circled g d k) where
     once : Inj k (λ j. iter (after g) j d)
-    once = fresh-inj (after g) d k C.back C.fresh
+    once = fresh_inj (after g) d k C.back C.fresh
 
-    pub ring-most : k ≤ around g (event g d)
-    ring-most = walk-most k once
+    pub ring_most : k ≤ around g (event g d)
+    ring_most = walk_most k once
 
     -- one ring of all darts of the event
-    pub ring-whole : k ≡ around g (event g d) → OneRing g (event g d)
-    ring-whole q x y h i r s =
-        let a = walk-whole k once q x h r in
-        let b = walk-whole k once q y i s in
-        let few : k ≤ darts g = inj-le k (darts g) (λ j. iter (after g) j d) once (into k once) in
+    pub ring_whole : k ≡ around g (event g d) → OneRing g (event g d)
+    ring_whole q x y h i r s =
+        let a = walk_whole k once q x h r in
+        let b = walk_whole k once q y i s in
+        let few : k ≤ darts g = inj_le k (darts g) (λ j. iter (after g) j d) once (into k once) in
         on few a.0 b.0 a.1 b.1 a.2 b.2
       where
         on : k ≤ darts g → (i j : ℕ) → i < k → j < k → iter (after g) i d ≡ x → iter (after g) j d ≡ y
@@ -120,13 +120,13 @@ module _ (g : Drawing) (K : Kept g) (d : ℕ) (l : d < darts g) where
             ]
 
     -- where each event's darts are one ring, this is all of it
-    pub ring-exact : Rings g → k ≡ around g (event g d)
+    pub ring_exact : Rings g → k ≡ around g (event g d)
     unfolding around
-    ring-exact R =
+    ring_exact R =
         omega (
           arith,
-          sum-const k 1,
-          along-class k (darts g) (λ j. iter (after g) j d) (event g) (λ c. 1) (event g d) (into k once) once (λ j i. goes-there g K j d l) (λ e h q.
+          sum_const k 1,
+          along_class k (darts g) (λ j. iter (after g) j d) (event g) (λ c. 1) (event g d) (into k once) once (λ j i. goes_there g K j d l) (λ e h q.
               let t = R.meets d e l h (sym q) in
               let c = cycle (after g) d k C.some C.back t.0 in
               (c.0, c.1, sym c.2 ∙ t.2)),
@@ -135,28 +135,28 @@ module _ (g : Drawing) (K : Kept g) (d : ℕ) (l : d < darts g) where
 -- ---- events in turn
 
 -- no event yet
-pub tally-none : (g : Drawing) (x : ℕ → ℕ) → Tally g x 0 0
+pub tally_none : (g : Drawing) (x : ℕ → ℕ) → Tally g x 0 0
 unfolding sum
-tally-none g x = record { most = omega arith; whole = λ q i l. absurd (omega arith); exact = λ R. refl }
+tally_none g x = record { most = omega arith; whole = λ q i l. absurd (omega arith); exact = λ R. refl }
 
 -- the same events, told in another way
-pub tally-same : (g : Drawing) (x y : ℕ → ℕ) (k met : ℕ) → ((i : ℕ) → i < k → y i ≡ x i) → Tally g x k met → Tally g y k met
-tally-same g x y k met same I = record {
+pub tally_same : (g : Drawing) (x y : ℕ → ℕ) (k met : ℕ) → ((i : ℕ) → i < k → y i ≡ x i) → Tally g x k met → Tally g y k met
+tally_same g x y k met same I = record {
   most = omega (arith, I.most, alike);
   whole = λ q i l. rw (same i l) (I.whole (omega (arith, alike)) i l);
   exact = λ R. omega (arith, I.exact R, alike);
 }
   where
     alike : sum k (λ i. around g (y i)) ≡ sum k (λ i. around g (x i))
-    alike = sum-cong k (λ i. around g (y i)) (λ i. around g (x i)) (λ i l. ap (around g) (same i l))
+    alike = sum_cong k (λ i. around g (y i)) (λ i. around g (x i)) (λ i l. ap (around g) (same i l))
 
 -- all events have no more than all darts
-pub turns-few : (g : Drawing) → EventsKnown g → (x : ℕ → ℕ) (k : ℕ) → Turns g x k → sum k (λ i. around g (x i)) ≤ darts g
-turns-few g E x k T = omega (arith, along-le k g.events x (around g) T.0 T.1, around-total g E)
+pub turns_few : (g : Drawing) → EventsKnown g → (x : ℕ → ℕ) (k : ℕ) → Turns g x k → sum k (λ i. around g (x i)) ≤ darts g
+turns_few g E x k T = omega (arith, along_le k g.events x (around g) T.0 T.1, around_total g E)
 
 -- and as many, where each event has its turn
-pub turns-all : (g : Drawing) → EventsKnown g → (x : ℕ → ℕ) (k : ℕ) → k ≡ g.events → Turns g x k → sum k (λ i. around g (x i)) ≡ darts g
-turns-all g E x k q T = rw q (reindex g.events x (rw q at T.1) (rw q at T.0) (around g) ∙ around-total g E)
+pub turns_all : (g : Drawing) → EventsKnown g → (x : ℕ → ℕ) (k : ℕ) → k ≡ g.events → Turns g x k → sum k (λ i. around g (x i)) ≡ darts g
+turns_all g E x k q T = rw q (reindex g.events x (rw q at T.1) (rw q at T.0) (around g) ∙ around_total g E)
 
 module _ (g : Drawing) (x : ℕ → ℕ) (k met : ℕ) (I : Tally g x k met) where
   one_more : sum (k + 1) (λ i. around g (x i)) ≡ sum k (λ i. around g (x i)) + around g (x k)
@@ -164,9 +164,9 @@ module _ (g : Drawing) (x : ℕ → ℕ) (k met : ℕ) (I : Tally g x k met) whe
   one_more = rw add-one refl
 
   -- an event without darts has nothing to follow
-  pub tally-skip : ((d : ℕ) → d < darts g → event g d ≢ x k) → Tally g x (k + 1) met
+  pub tally_skip : ((d : ℕ) → d < darts g → event g d ≢ x k) → Tally g x (k + 1) met
   unfolding around
-  tally-skip none = record {
+  tally_skip none = record {
     most = omega (arith, one_more, I.most);
     whole = λ q i l. elim (ℕ_discrete i k) [
       | yes e ↦ λ d c h j r s. absurd (none d h (r ∙ ap x e))
@@ -180,40 +180,40 @@ module _ (g : Drawing) (x : ℕ → ℕ) (k met : ℕ) (I : Tally g x k met) whe
 
   module _ (K : Kept g) (d : ℕ) (l : d < darts g) (there : event g d ≡ x k) where
     -- the ring of so many steps is followed
-    pub tally-ring : (steps : ℕ) → Circled g d steps → Tally g x (k + 1) (met + steps)
-    tally-ring steps C = record {
+    pub tally_ring : (steps : ℕ) → Circled g d steps → Tally g x (k + 1) (met + steps)
+    tally_ring steps C = record {
       most = omega (arith, one_more, I.most, most);
       whole = λ q i h. elim (ℕ_discrete i k) [
-        | yes e ↦ rw (e, ← there) (ring-whole g K d l steps C (omega (arith, one_more, I.most, most, ap (around g) there)))
+        | yes e ↦ rw (e, ← there) (ring_whole g K d l steps C (omega (arith, one_more, I.most, most, ap (around g) there)))
         | no e ↦ I.whole (omega (arith, one_more, I.most, most)) i (omega arith)
       ];
-      exact = λ R. omega (arith, one_more, I.exact R, ring-exact g K d l steps C R, ap (around g) there);
+      exact = λ R. omega (arith, one_more, I.exact R, ring_exact g K d l steps C R, ap (around g) there);
     }
       where
         most : steps ≤ around g (x k)
-        most = rw (← there) (ring-most g K d l steps C)
+        most = rw (← there) (ring_most g K d l steps C)
 
     -- a walk that does not come back within as many steps as there are darts left
-    pub refuse-open : EventsKnown g → Turns g x (k + 1) → (left : ℕ) → darts g ≤ met + left
+    pub refuse_open : EventsKnown g → Turns g x (k + 1) → (left : ℕ) → darts g ≤ met + left
         → ((j : ℕ) → 0 < j → j ≤ left → iter (after g) j d ≢ d) → Rings g → ⊥
-    refuse-open E T left enough none R =
+    refuse_open E T left enough none R =
         omega (
           arith,
           I.exact R,
-          walk-most g K d l (suc left) (open-inj (darts g) (after g) (after-inj g R) R.inside d (suc left) l (λ j a b. none j a (omega arith))),
+          walk_most g K d l (suc left) (open_inj (darts g) (after g) (after_inj g R) R.inside d (suc left) l (λ j a b. none j a (omega arith))),
           ap (around g) there,
           one_more,
-          turns-few g E x (k + 1) T,
+          turns_few g E x (k + 1) T,
         )
 
   -- all darts are met: the other events have none, and each event's darts are one ring
-  pub rings-whole : Kept g → EventsKnown g → Turns g x k → met ≡ darts g → Rings g
+  pub rings_whole : Kept g → EventsKnown g → Turns g x k → met ≡ darts g → Rings g
   unfolding around
-  rings-whole K E T q = record {
+  rings_whole K E T q = record {
     inside = λ d l. (K d l).0;
     stays = λ d l. (K d l).1;
     meets = λ d e h i r.
-        let all : sum k (λ i. around g (x i)) ≡ sum g.events (around g) = omega (arith, I.most, turns-few g E x k T, around-total g E) in
-        let t = along-all k g.events x (around g) T.0 T.1 all (event g d) (E d h) (class-term (darts g) (event g) (λ c. 1) d h) in
-        I.whole (omega (arith, all, around-total g E)) t.0 t.1 d e h i (sym t.2) (sym (t.2 ∙ r));
+        let all : sum k (λ i. around g (x i)) ≡ sum g.events (around g) = omega (arith, I.most, turns_few g E x k T, around_total g E) in
+        let t = along_all k g.events x (around g) T.0 T.1 all (event g d) (E d h) (class_term (darts g) (event g) (λ c. 1) d h) in
+        I.whole (omega (arith, all, around_total g E)) t.0 t.1 d e h i (sym t.2) (sym (t.2 ∙ r));
   }

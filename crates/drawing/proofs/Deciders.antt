@@ -13,7 +13,7 @@ use lib.IntN.{pos}
 use lib.Signed.{lt_z}
 use Rattle.finite.specs.Sums.{bit}
 use Rattle.finite.specs.Steps.{iter}
-use Rattle.finite.proofs.Decide.{is_yes, is-yes, map?, ◌×?◌, ◌⊎?◌, ◌→?◌, ¬?, T?, eq?, le?, lt?, all?, any?, all-of?, distinct?, ascending?}
+use Rattle.finite.proofs.Decide.{is_yes, is_yes_lem, map?, ◌×?◌, ◌⊎?◌, ◌→?◌, ¬?, T?, eq?, le?, lt?, all?, any?, all_of?, distinct?, ascending?}
 use Rattle.drawing.specs.Drawing.{Drawing, darts, arrows, event, after, tail, head, twin, face, outer_face, plain, switch, corners, pole}
 use Rattle.drawing.specs.Conditions.{Rings, Reached, first, along, Joined, Runs, Round, Circle, label, larges, labels, Labelling, room_of, Cut}
 
@@ -64,7 +64,7 @@ cut? g l =
     (λ h. record { ascending = h.0; poles = h.1.0; larger = record { lt = h.1.1 } })
     (λ r. (r.ascending, (r.poles, r.larger.lt)))
     (ascending? l
-    ×? all-of? (λ v. (v < g.events) × T (pole g v)) (λ v. lt? v g.events ×? T? (pole g v)) l
+    ×? all_of? (λ v. (v < g.events) × T (pole g v)) (λ v. lt? v g.events ×? T? (pole g v)) l
     ×? T? (lt_z (room_of g l) (pos (length l))))
 
 -- ---- joined: the events known to be reached, each with its path, grown from event 0
@@ -85,9 +85,9 @@ abbrev pub is_some : {A : Type 0} → Option A → Bool
 is_some none = false
 is_some (some a) = true
 
-pub is-some : {A : Type 0} (o : Option A) → T (is_some o) → A
-is-some none t = absurd t
-is-some (some a) t = a
+pub is_some_lem : {A : Type 0} (o : Option A) → T (is_some o) → A
+is_some_lem none t = absurd t
+is_some_lem (some a) t = a
 
 -- the far end of dart d, where its near end is known and it is not
 abbrev pub grow : (g : Drawing) (d : ℕ) → Dec (d < darts g) → Option (Reached g (event g d)) → Option (Reached g (event g (twin d))) → Known g → Known g
@@ -114,8 +114,8 @@ unfoldable pub joined? : (g : Drawing) (l : Known g) → Dec ((v : ℕ) → v < 
 unfolding all? find
 joined? g l = all? g.events (λ v. T (has g l v)) (λ v. T? (has g l v))
 
-pub joined-law : (g : Drawing) (l : Known g) → T (is_yes (joined? g l)) → Joined g
-joined-law g l t v h = is-some (find g v l) (is-yes (joined? g l) t v h)
+pub joined_law : (g : Drawing) (l : Known g) → T (is_yes (joined? g l)) → Joined g
+joined_law g l t v h = is_some_lem (find g v l) (is_yes_lem (joined? g l) t v h)
 
 -- the known are closed under the arrows, and some event is not known
 pub record Parted (g : Drawing) (l : Known g) : Type 0 where
@@ -135,9 +135,9 @@ in-closed : (g : Drawing) (l : Known g) → Parted g l → (v : ℕ) → Reached
 in-closed g l p v first = p.zero_in
 in-closed g l p v (along d h r) = p.closed d h (in-closed g l p (event g d) r)
 
-pub parted-law : (g : Drawing) (l : Known g) → T (is_yes (parted? g l)) → ¬ Joined g
-parted-law g l t j =
-    let p = is-yes (parted? g l) t in
+pub parted_law : (g : Drawing) (l : Known g) → T (is_yes (parted? g l)) → ¬ Joined g
+parted_law g l t j =
+    let p = is_yes_lem (parted? g l) t in
     T_not (has g l p.out.0) p.out.2 (in-closed g l p p.out.0 (j p.out.0 p.out.1))
 
 -- ---- no circle: a level for each event, which every arrow climbs
@@ -164,9 +164,9 @@ climbs : (g : Drawing) (m : List ℕ) → ((a : ℕ) → a < arrows g → get_or
 climbs g m c u [] v h = omega (arith, ap (λ (x : ℕ). get_or m x 0) h)
 climbs g m c u (a ∷ l) v h = omega (arith, c a h.0, ap (λ (x : ℕ). get_or m x 0) h.1, climbs g m c (head g a) l v h.2)
 
-pub climb-law : (g : Drawing) (m : List ℕ) → T (is_yes (climb? g m)) → (l : List ℕ) → ¬ Circle g l
-climb-law g m t l c = go l c.round
+pub climb_law : (g : Drawing) (m : List ℕ) → T (is_yes (climb? g m)) → (l : List ℕ) → ¬ Circle g l
+climb_law g m t l c = go l c.round
   where
     go : (l : List ℕ) → Round g l → ⊥
     go [] r = r
-    go (a ∷ l) r = omega (arith, climbs g m (is-yes (climb? g m) t) (tail g a) (a ∷ l) (tail g a) r)
+    go (a ∷ l) r = omega (arith, climbs g m (is_yes_lem (climb? g m) t) (tail g a) (a ∷ l) (tail g a) r)

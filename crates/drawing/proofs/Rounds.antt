@@ -3,8 +3,8 @@
 use mathlib.Core.Path.{◌≡◌, refl, sym, ap, ◌∙◌}
 use Prim.Native.Nat.{ℕ, zero, suc, ◌<◌}
 use Rattle.finite.specs.Steps.{iter, Inj, Reach}
-use Rattle.finite.proofs.Perm.{onto-inj}
-use Rattle.finite.proofs.Orbit.{iter-into}
+use Rattle.finite.proofs.Perm.{onto_inj}
+use Rattle.finite.proofs.Orbit.{iter_into}
 use Rattle.drawing.specs.Drawing.{Drawing, darts, event, after}
 use Rattle.drawing.specs.Conditions.{Rings}
 
@@ -15,33 +15,33 @@ abbrev pub Kept : Drawing → Type 0
 Kept g = (d : ℕ) → d < darts g → Keeps g d
 
 module _ (g : Drawing) (K : Kept g) where
-  pub goes-inside : (k d : ℕ) → d < darts g → iter (after g) k d < darts g
-  goes-inside = iter-into (darts g) (after g) (λ d l. (K d l).0)
+  pub goes_inside : (k d : ℕ) → d < darts g → iter (after g) k d < darts g
+  goes_inside = iter_into (darts g) (after g) (λ d l. (K d l).0)
 
-  pub goes-there : (k d : ℕ) → d < darts g → event g (iter (after g) k d) ≡ event g d
+  pub goes_there : (k d : ℕ) → d < darts g → event g (iter (after g) k d) ≡ event g d
   unfolding iter
-  goes-there zero d l = refl
-  goes-there (suc k) d l = (K (iter (after g) k d) (goes-inside k d l)).1 ∙ goes-there k d l
+  goes_there zero d l = refl
+  goes_there (suc k) d l = (K (iter (after g) k d) (goes_inside k d l)).1 ∙ goes_there k d l
 
 module _ (g : Drawing) (R : Rings g) where
-  pub rings-kept : Kept g
-  rings-kept d l = (R.inside d l, R.stays d l)
+  pub rings_kept : Kept g
+  rings_kept d l = (R.inside d l, R.stays d l)
 
   -- going round from the successor of e comes to e: the dart before it has e for its successor
-  pub after-onto : (e : ℕ) → e < darts g → (d : ℕ) × (d < darts g) × (after g d ≡ e)
+  pub after_onto : (e : ℕ) → e < darts g → (d : ℕ) × (d < darts g) × (after g d ≡ e)
   unfolding iter
-  after-onto e l = let t = R.meets (after g e) e (R.inside e l) l (R.stays e l) in last t.0 t.2
+  after_onto e l = let t = R.meets (after g e) e (R.inside e l) l (R.stays e l) in last t.0 t.2
     where
       last : (k : ℕ) → iter (after g) k (after g e) ≡ e → (d : ℕ) × (d < darts g) × (after g d ≡ e)
       last zero q = (e, l, q)
-      last (suc k) q = (iter (after g) k (after g e), goes-inside g rings-kept k (after g e) (R.inside e l), q)
+      last (suc k) q = (iter (after g) k (after g e), goes_inside g rings_kept k (after g e) (R.inside e l), q)
 
-  pub after-inj : Inj (darts g) (after g)
-  after-inj = onto-inj (darts g) (after g) R.inside after-onto
+  pub after_inj : Inj (darts g) (after g)
+  after_inj = onto_inj (darts g) (after g) R.inside after_onto
 
-  pub after-reach : (d e : ℕ) → d < darts g → e < darts g → event g d ≡ event g e → Reach (after g) d e
-  after-reach d e k l q = let t = R.meets d e k l q in (t.0, t.2)
+  pub after_reach : (d e : ℕ) → d < darts g → e < darts g → event g d ≡ event g e → Reach (after g) d e
+  after_reach d e k l q = let t = R.meets d e k l q in (t.0, t.2)
 
   -- what is reached round an event is of the event
-  pub reach-stays : (d e : ℕ) → d < darts g → Reach (after g) d e → event g e ≡ event g d
-  reach-stays d e l t = ap (event g) (sym t.1) ∙ goes-there g rings-kept t.0 d l
+  pub reach_stays : (d e : ℕ) → d < darts g → Reach (after g) d e → event g e ≡ event g d
+  reach_stays d e l t = ap (event g) (sym t.1) ∙ goes_there g rings_kept t.0 d l

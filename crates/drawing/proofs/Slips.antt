@@ -10,7 +10,7 @@ use lib.IntN.{pos}
 use Rattle.finite.specs.Sums.{sum, δ, class, below}
 use Rattle.finite.specs.Steps.{iter, least, lowest}
 use Rattle.finite.specs.Lists.{sumℤ}
-use Rattle.finite.proofs.Decide.{is-yes, all?, le?}
+use Rattle.finite.proofs.Decide.{is_yes_lem, all?, le?}
 use Rattle.drawing.specs.Drawing.{Drawing, twin, face, switches, room, changes, mixed_events, touches}
 use Rattle.drawing.specs.Conditions.{NoneMixed, room_of}
 
@@ -42,20 +42,20 @@ unfolding c8 sum δ class iter least lowest twin face switches room
 dead_end = (refl, refl)
 
 -- switches are counted by corner
-by-corner : switches twice 0 ≡ 4
+by_corner : switches twice 0 ≡ 4
 unfolding twice sum δ class iter least lowest twin face switches
-by-corner = refl
+by_corner = refl
 
 -- changes are counted round the ring, and two are allowed
-round-the-ring : (changes ringed 0 ≡ 2) × (mixed_events ringed ≡ [])
+round_the_ring : (changes ringed 0 ≡ 2) × (mixed_events ringed ≡ [])
 unfolding ringed sum δ class below changes mixed_events
-round-the-ring = (refl, refl)
+round_the_ring = (refl, refl)
 
 none-mixed : NoneMixed ringed
 unfolding ringed sum δ class changes all? le?
-none-mixed = is-yes (all? 4 (λ v. changes ringed v ≤ 2) (λ v. le? (changes ringed v) 2)) tt
+none-mixed = is_yes_lem (all? 4 (λ v. changes ringed v ≤ 2) (λ v. le? (changes ringed v) 2)) tt
 
 -- a cut's room counts each face once
-each-face-once : room_of doubly (3 ∷ 4 ∷ []) ≡ pos 1
+each_face_once : room_of doubly (3 ∷ 4 ∷ []) ≡ pos 1
 unfolding doubly sum δ class iter least lowest twin face switches room touches sumℤ room_of
-each-face-once = refl
+each_face_once = refl

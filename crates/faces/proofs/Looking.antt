@@ -10,18 +10,18 @@ use lib.ListN.{length, set, length-set, replicate, length-replicate, get_or-repl
 use lib.Seq.{get_or-set_same, get_or-set_other}
 use Rattle.finite.specs.Sums.{sum, δ}
 use Rattle.finite.specs.Steps.{iter}
-use Rattle.finite.proofs.Sum.{δ-eq, δ-other}
-use Rattle.finite.proofs.Tally.{class-few}
+use Rattle.finite.proofs.Sum.{δ-eq, δ_other}
+use Rattle.finite.proofs.Tally.{class_few}
 use Rattle.finite.proofs.Orbit.{lowest-le}
 use Rattle.drawing.specs.Drawing.{Drawing, darts, twin, walk, face, faces, corner_face, switch, switches}
 use Rattle.drawing.specs.Conditions.{Rings}
-use Rattle.drawing.proofs.Twins.{twin-into}
-use Rattle.drawing.proofs.Faces.{walk-into, walk-inj, corner-twin, corner-face, corner-into}
+use Rattle.drawing.proofs.Twins.{twin_into}
+use Rattle.drawing.proofs.Faces.{walk_into, walk_inj, corner_twin, corner_face_lem, corner_into}
 use Rattle.rules.specs.Chart.{drawing}
-use Rattle.rules.proofs.Bytes.{darts-even}
+use Rattle.rules.proofs.Bytes.{darts_even}
 use Rattle.chart.specs.Shape.{Shape}
 use Rattle.chart.specs.Held.{number, Keyed, Switched}
-use Rattle.chart.proofs.Keys.{number-few, number-less, numbered}
+use Rattle.chart.proofs.Keys.{number_few, number_less, numbered}
 use Rattle.words.specs.Tables.{nth}
 use Rattle.faces.specs.Walked.{Below, Looked, Paintable, Painted}
 
@@ -32,20 +32,20 @@ module _ {s : List ℕ} {n d x : ℕ} {here spare : List ℕ} (A : Looked s n d 
   g = drawing s
 
   abbrev even : darts g % 2 ≡ 0
-  even = darts-even s
+  even = darts_even s
 
   dart : d < darts g
   dart = omega (arith, A.shape.darts, A.dart)
 
   pub far : twin d < length here
-  far = omega (arith, twin-into (darts g) even d dart, A.below.size)
+  far = omega (arith, twin_into (darts g) even d dart, A.below.size)
 
   face-le : face g d ≤ d
   unfolding face iter
-  face-le = lowest-le (darts g) (walk g) (walk-inj g even A.rings) (walk-into g even A.rings) d dart 0
+  face-le = lowest-le (darts g) (walk g) (walk_inj g even A.rings) (walk_into g even A.rings) d dart 0
 
   corner : corner_face g (twin d) ≡ face g d
-  corner = corner-twin g even A.rings d dart
+  corner = corner_twin g even A.rings d dart
 
   module _ (t y : ℕ) (twins : t ≡ twin d) (got : y ≡ nth here t) where
     read : y ≡ nth here (twin d)
@@ -56,28 +56,28 @@ module _ {s : List ℕ} {n d x : ℕ} {here spare : List ℕ} (A : Looked s n d 
       record {
         size = A.below.size;
         done = λ c h t. elim (ℕ_discrete (corner_face g c) d) [
-          | yes e ↦ absurd (omega (arith, lower, ap (face g) e, corner-face g even A.rings c h))
+          | yes e ↦ absurd (omega (arith, lower, ap (face g) e, corner_face_lem g even A.rings c h))
           | no e ↦ A.below.done c h (omega arith)
         ];
         left = λ c h t. A.below.left c h (omega arith);
         counts = λ c h t. elim (ℕ_discrete (corner_face g c) d) [
-          | yes e ↦ absurd (omega (arith, lower, ap (face g) e, corner-face g even A.rings c h))
+          | yes e ↦ absurd (omega (arith, lower, ap (face g) e, corner_face_lem g even A.rings c h))
           | no e ↦ A.below.counts c h (omega arith)
         ];
       },
-      sym (δ-other (face g d) d (omega (arith, lower))),
+      sym (δ_other (face g d) d (omega (arith, lower))),
     )
       where
         lower : face g d < d
         lower = elim (dec_lt (face g d) d) [
           | yes l ↦ l
-          | no l ↦ absurd (omega (arith, A.below.left (twin d) (twin-into (darts g) even d dart) (omega (arith, corner)), read))
+          | no l ↦ absurd (omega (arith, A.below.left (twin d) (twin_into (darts g) even d dart) (omega (arith, corner)), read))
         ]
 
     module _ (fresh : 65535 ≤ y) where
       name : face g d ≡ d
       name = elim (dec_lt (face g d) d) [
-        | yes l ↦ absurd (omega (arith, corner, A.below.done (twin d) (twin-into (darts g) even d dart) (omega (arith, corner)), number-few g (corner_face g (twin d)), face-le, A.dart, A.shape.few, read))
+        | yes l ↦ absurd (omega (arith, corner, A.below.done (twin d) (twin_into (darts g) even d dart) (omega (arith, corner)), number_few g (corner_face g (twin d)), face-le, A.dart, A.shape.few, read))
         | no l ↦ omega (arith, face-le)
       ]
 
@@ -88,18 +88,18 @@ module _ {s : List ℕ} {n d x : ℕ} {here spare : List ℕ} (A : Looked s n d 
         size = A.below.size ∙ sym A.shape.darts;
         dart = A.dart;
         name = name;
-        small = omega (arith, A.key, number-few g d, A.dart, A.shape.few);
+        small = omega (arith, A.key, number_few g d, A.dart, A.shape.few);
       }
 
       pub few : switches g d < 65536
       unfolding switches
-      few = omega (arith, class-few (corner_face g) (switch g) d (λ i. omega arith) (darts g), A.shape.darts, A.shape.few)
+      few = omega (arith, class_few (corner_face g) (switch g) d (λ i. omega arith) (darts g), A.shape.darts, A.shape.few)
 
       -- the key of a face below d is another
       other_key : (new : List ℕ) → Painted g d x here new → (c : ℕ) → c < darts g → corner_face g c < d → (nth new c ≡ nth here c) × (nth new c < x)
       other_key new P c h l =
           let e : nth new c ≡ nth here c = P.others c h (omega arith) in
-          (e, omega (arith, A.below.done c h l, A.key, number-less g (corner_face g c) d (corner-face g even A.rings c h) l))
+          (e, omega (arith, A.below.done c h l, A.key, number_less g (corner_face g c) d (corner_face_lem g even A.rings c h) l))
 
       pub add : (new : List ℕ) → Painted g d x here new → (y : ℕ) (spare' : List ℕ) → y ≡ switches g d → spare' ≡ set spare x y → Below g (d + 1) new spare' × (1 ≡ δ (face g d) d)
       add new P y spare' count noted = (
@@ -143,8 +143,8 @@ none g m here spare e q = record {
 }
 
 module _ (g : Drawing) (d count : ℕ) (here spare : List ℕ) (C : Counted g d count here spare) where
-  pub count-few : count ≤ d
-  count-few = omega (arith, C.number, number-few g d)
+  pub count_few : count ≤ d
+  count_few = omega (arith, C.number, number_few g d)
 
   pub one_more : d < darts g → (r : ℕ) (new spare' : List ℕ) → Below g (d + 1) new spare' × (r ≡ δ (face g d) d) → Counted g (d + 1) (count + r) new spare'
   unfolding sum
@@ -156,7 +156,7 @@ unfolding faces
 all s n d count here spare S R C l =
     let g = drawing s in
     let e : d ≡ darts g = omega (arith, C.within, S.darts) in (
-      numbered (darts-even s) R C.below.size (λ c h. C.below.done c h (omega (arith, corner-into g (darts-even s) R c h))),
+      numbered (darts_even s) R C.below.size (λ c h. C.below.done c h (omega (arith, corner_into g (darts_even s) R c h))),
       C.number ∙ ap (number g) e,
-      record { each = λ c h. C.below.counts c h (omega (arith, corner-into g (darts-even s) R c h)) },
+      record { each = λ c h. C.below.counts c h (omega (arith, corner_into g (darts_even s) R c h)) },
     )

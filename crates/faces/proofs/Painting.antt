@@ -11,19 +11,19 @@ use lib.ListN.{length, set, length-set}
 use lib.Seq.{get_or-set_same, get_or-set_other}
 use Rattle.finite.specs.Sums.{sum}
 use Rattle.finite.specs.Steps.{iter, Reach}
-use Rattle.finite.proofs.Sum.{sum_mono, sum-const}
-use Rattle.finite.proofs.Orbit.{iter-into, fresh-inj}
-use Rattle.finite.proofs.Along.{along-class}
-use Rattle.finite.proofs.Walk.{Walk, walk_start, walk_step, walk-few, walk-all}
+use Rattle.finite.proofs.Sum.{sum_mono, sum_const}
+use Rattle.finite.proofs.Orbit.{iter_into, fresh_inj}
+use Rattle.finite.proofs.Along.{along_class}
+use Rattle.finite.proofs.Walk.{Walk, walk_start, walk_step, walk_few, walk-all}
 use Rattle.drawing.specs.Drawing.{Drawing, darts, after, twin, walk, corner_face, switch, switches}
 use Rattle.drawing.specs.Conditions.{Rings}
 use Rattle.rules.specs.Chart.{drawing}
-use Rattle.rules.proofs.Bytes.{darts-even}
-use Rattle.drawing.proofs.Twins.{twin-into, twin-inj, twin-twin}
-use Rattle.drawing.proofs.Faces.{walk-into, walk-inj, face-same, face-twin, corner-twin}
+use Rattle.rules.proofs.Bytes.{darts_even}
+use Rattle.drawing.proofs.Twins.{twin_into, twin_inj, twin-twin}
+use Rattle.drawing.proofs.Faces.{walk_into, walk_inj, face_same, face-twin, corner_twin}
 use Rattle.words.specs.Tables.{nth}
 use Rattle.faces.specs.Walked.{Paintable, Painted}
-use Rattle.finite.proofs.Ahead.{ahead, orbit-nearer}
+use Rattle.finite.proofs.Ahead.{ahead, orbit_nearer}
 
 -- the first k corners of the walk have x, and the corners of other faces are as they were
 pub record Traced (g : Drawing) (d x k : ℕ) (old new : List ℕ) : Type 0 where
@@ -42,7 +42,7 @@ module _ {s : List ℕ} {n d x : ℕ} {old : List ℕ} (A : Paintable s n d x ol
   g = drawing s
 
   abbrev even : darts g % 2 ≡ 0
-  even = darts-even s
+  even = darts_even s
 
   abbrev R : Rings g
   R = A.rings
@@ -64,25 +64,25 @@ module _ {s : List ℕ} {n d x : ℕ} {old : List ℕ} (A : Paintable s n d x ol
     reached = (P.steps, sym P.way.here)
 
     inside : e < darts g
-    inside = rw P.way.here (iter-into (darts g) (walk g) (walk-into g even R) P.steps d dart)
+    inside = rw P.way.here (iter_into (darts g) (walk g) (walk_into g even R) P.steps d dart)
 
     pub small : e < n
     small = omega (arith, inside, A.shape.darts)
 
     pub far : twin e < n
-    far = omega (arith, twin-into (darts g) even e inside, A.shape.darts)
+    far = omega (arith, twin_into (darts g) even e inside, A.shape.darts)
 
-    pub far-in : twin e < length new
-    far-in = omega (arith, far, A.size, P.traced.size)
+    pub far_in : twin e < length new
+    far_in = omega (arith, far, A.size, P.traced.size)
 
     here : corner_face g (twin e) ≡ d
-    here = corner-twin g even R e inside ∙ sym ((face-same g even R d e dart inside).0 reached) ∙ A.name
+    here = corner_twin g even R e inside ∙ sym ((face_same g even R d e dart inside).0 reached) ∙ A.name
 
     more : Traced g d x (P.steps + 1) old (set new (twin e) x)
     more = record {
       size = length-set new (twin e) x ∙ P.traced.size;
       met = λ i h. elim (ℕ_discrete (twin (iter (walk g) i d)) (twin e)) [
-        | yes q ↦ rw q (get_or-set_same new (twin e) x 0 far-in)
+        | yes q ↦ rw q (get_or-set_same new (twin e) x 0 far_in)
         | no q ↦ get_or-set_other new (twin e) (twin (iter (walk g) i d)) x 0 q ∙ P.traced.met i (before i h q)
       ];
       others = λ c h q. get_or-set_other new (twin e) c x 0 (λ t. q (ap (corner_face g) t ∙ here)) ∙ P.traced.others c h q;
@@ -98,10 +98,10 @@ module _ {s : List ℕ} {n d x : ℕ} {old : List ℕ} (A : Paintable s n d x ol
     few =
         omega (
           arith,
-          walk-few (darts g) (walk g) d P.steps e (walk-inj g even R) (walk-into g even R) dart P.way,
+          walk_few (darts g) (walk g) d P.steps e (walk_inj g even R) (walk_into g even R) dart P.way,
           P.counted,
           sum_mono P.steps (λ j. switch g (twin (iter (walk g) j d))) (λ j. 1) (λ j h. omega arith),
-          sum-const P.steps 1,
+          sum_const P.steps 1,
         )
 
     -- the code has the twin as c, and then the list as new' and the next dart as e'
@@ -110,15 +110,15 @@ module _ {s : List ℕ} {n d x : ℕ} {old : List ℕ} (A : Paintable s n d x ol
       next = goes ∙ ap (after g) twins
 
       pub beyond : e' < n
-      beyond = omega (arith, next, walk-into g even R e inside, A.shape.darts)
+      beyond = omega (arith, next, walk_into g even R e inside, A.shape.darts)
 
       kept : Traced g d x (P.steps + 1) old new'
       kept = rw (stored, twins) more
 
       -- one corner more is counted
-      more-counted : (y : ℕ) → y ≡ (c % 2 + e' % 2 + 1) % 2 → count + y ≡ sum (suc P.steps) (λ j. switch g (twin (iter (walk g) j d)))
+      more_counted : (y : ℕ) → y ≡ (c % 2 + e' % 2 + 1) % 2 → count + y ≡ sum (suc P.steps) (λ j. switch g (twin (iter (walk g) j d)))
       unfolding sum
-      more-counted y is =
+      more_counted y is =
           let at : y ≡ switch g (twin (iter (walk g) P.steps d)) = is ∙ rw (goes, twins, P.way.here) refl in
           omega (arith, P.counted)
 
@@ -127,35 +127,35 @@ module _ {s : List ℕ} {n d x : ℕ} {old : List ℕ} (A : Paintable s n d x ol
         steps = P.steps + 1;
         way = rw next (walk_step (walk g) d P.steps e P.way (λ r. q (next ∙ r)));
         traced = kept;
-        counted = rw (add-one P.steps) (more-counted y is);
+        counted = rw (add-one P.steps) (more_counted y is);
       }
 
       pub falls : e' ≢ d → ahead (darts g) (walk g) d (walk g e') < ahead (darts g) (walk g) d (walk g e)
-      falls q = rw next (orbit-nearer (darts g) (walk g) d e (walk-inj g even R) (walk-into g even R) dart reached (λ r. q (next ∙ r)))
+      falls q = rw next (orbit_nearer (darts g) (walk g) d e (walk_inj g even R) (walk_into g even R) dart reached (λ r. q (next ∙ r)))
 
       -- each corner of the face is met once
       pub all-switches : e' ≡ d → (y : ℕ) → y ≡ (c % 2 + e' % 2 + 1) % 2 → count + y ≡ switches g d
       unfolding switches iter
       all-switches q y is =
-          more-counted y is
-          ∙ along-class (suc P.steps) (darts g) (λ j. twin (iter (walk g) j d)) (corner_face g) (switch g) d
-          (λ j h. twin-into (darts g) even (iter (walk g) j d) (at j))
-          (λ i j a b r. fresh-inj (walk g) d (suc P.steps) (ap (walk g) (sym P.way.here) ∙ sym next ∙ q) (λ j a b. P.way.fresh j a (omega arith)) i j a b
-          (twin-inj (darts g) (iter (walk g) i d) (iter (walk g) j d) (at i) (at j) r))
-          (λ j h. corner-twin g even R (iter (walk g) j d) (at j) ∙ sym ((face-same g even R d (iter (walk g) j d) dart (at j)).0 (j, refl)) ∙ A.name)
+          more_counted y is
+          ∙ along_class (suc P.steps) (darts g) (λ j. twin (iter (walk g) j d)) (corner_face g) (switch g) d
+          (λ j h. twin_into (darts g) even (iter (walk g) j d) (at j))
+          (λ i j a b r. fresh_inj (walk g) d (suc P.steps) (ap (walk g) (sym P.way.here) ∙ sym next ∙ q) (λ j a b. P.way.fresh j a (omega arith)) i j a b
+          (twin_inj (darts g) (iter (walk g) i d) (iter (walk g) j d) (at i) (at j) r))
+          (λ j h. corner_twin g even R (iter (walk g) j d) (at j) ∙ sym ((face_same g even R d (iter (walk g) j d) dart (at j)).0 (j, refl)) ∙ A.name)
           (λ b h t.
-          let r = (face-same g even R d (twin b) dart (twin-into (darts g) even b h)).1 (A.name ∙ sym t ∙ sym (face-twin g even R b h)) in
+          let r = (face_same g even R d (twin b) dart (twin_into (darts g) even b h)).1 (A.name ∙ sym t ∙ sym (face-twin g even R b h)) in
           let w = walk-all (walk g) d P.steps e P.way (sym next ∙ q) (twin b) r in
           (w.0, omega (arith, w.1), ap twin w.2 ∙ twin-twin b))
         where
           at : (j : ℕ) → iter (walk g) j d < darts g
-          at j = iter-into (darts g) (walk g) (walk-into g even R) j d dart
+          at j = iter_into (darts g) (walk g) (walk_into g even R) j d dart
 
       pub done : e' ≡ d → Painted g d x old new'
       done q = record {
         size = kept.size;
         inside = λ b h t.
-            let r = (face-same g even R d (twin b) dart (twin-into (darts g) even b h)).1 (A.name ∙ sym t ∙ sym (face-twin g even R b h)) in
+            let r = (face_same g even R d (twin b) dart (twin_into (darts g) even b h)).1 (A.name ∙ sym t ∙ sym (face-twin g even R b h)) in
             let w = walk-all (walk g) d P.steps e P.way (sym next ∙ q) (twin b) r in
             ap (nth new') (sym (twin-twin b) ∙ ap twin (sym w.2)) ∙ kept.met w.0 (omega (arith, w.1));
         others = kept.others;

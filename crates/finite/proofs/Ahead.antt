@@ -7,8 +7,8 @@ use native.Mathlib.Nat.{not-suc-le-zero}
 use native.Mathlib.Omega.{arith}
 use Rattle.finite.specs.Sums.{δ}
 use Rattle.finite.specs.Steps.{iter, Reach, Inj, Into}
-use Rattle.finite.proofs.Sum.{δ-eq, δ-other}
-use Rattle.finite.proofs.Orbit.{iter-add, iter-first, cycle, returns}
+use Rattle.finite.proofs.Sum.{δ-eq, δ_other}
+use Rattle.finite.proofs.Orbit.{iter-add, iter_first, cycle, returns}
 
 unfoldable pub ahead : ℕ → (ℕ → ℕ) → ℕ → ℕ → ℕ
 ahead zero p d x = 0
@@ -22,15 +22,15 @@ module _ (p : ℕ → ℕ) (d : ℕ) where
   enough zero (suc m) x l q = rw (δ-eq x d q) (omega arith)
   enough (suc j) zero x l q = absurd (not-suc-le-zero l)
   enough (suc j) (suc m) x l q =
-      ap (λ (y : ℕ). (1 - δ x d) * suc y) (enough j m (p x) (omega arith) (sym (iter-first p j x) ∙ q))
+      ap (λ (y : ℕ). (1 - δ x d) * suc y) (enough j m (p x) (omega arith) (sym (iter_first p j x) ∙ q))
 
   falls : (n j x : ℕ) → j ≤ n → iter p j x ≡ d → x ≢ d → ahead n p d (p x) < ahead n p d x
   unfolding iter ahead
   falls n zero x l q o = absurd (o q)
   falls zero (suc j) x l q o = absurd (not-suc-le-zero l)
   falls (suc n) (suc j) x l q o =
-      let r : iter p j (p x) ≡ d = sym (iter-first p j x) ∙ q in
-      rw (δ-other x d o) (omega (arith, enough j n (p x) (omega arith) r, enough j (suc n) (p x) (omega arith) r))
+      let r : iter p j (p x) ≡ d = sym (iter_first p j x) ∙ q in
+      rw (δ_other x d o) (omega (arith, enough j n (p x) (omega arith) r, enough j (suc n) (p x) (omega arith) r))
 
   -- a walk that leaves d and is back after t steps, n at most, is at c; its next step does not end it, and brings d nearer
   pub nearer : (n t c : ℕ) → 0 < t → t ≤ n → iter p t d ≡ d → Reach p d c → p c ≢ d → ahead n p d (p (p c)) < ahead n p d (p c)
@@ -44,6 +44,6 @@ module _ (p : ℕ → ℕ) (d : ℕ) where
       o
 
 -- the same along an injective map
-pub orbit-nearer : (n : ℕ) (p : ℕ → ℕ) (d c : ℕ) → Inj n p → Into n n p → d < n → Reach p d c → p c ≢ d
+pub orbit_nearer : (n : ℕ) (p : ℕ → ℕ) (d c : ℕ) → Inj n p → Into n n p → d < n → Reach p d c → p c ≢ d
     → ahead n p d (p (p c)) < ahead n p d (p c)
-orbit-nearer n p d c inj into l r o = let t = returns n p inj into d l in nearer p d n t.0 c t.1 t.2 t.3 r o
+orbit_nearer n p d c inj into l r o = let t = returns n p inj into d l in nearer p d n t.0 c t.1 t.2 t.3 r o

@@ -11,33 +11,33 @@ use native.Mathlib.Omega.{arith}
 use Rattle.finite.specs.Sums.{sum, δ, class}
 use Rattle.finite.specs.Steps.{Into}
 use Rattle.finite.proofs.Decide.{any?, ◌×?◌}
-use Rattle.finite.proofs.Sum.{sum_mono, sum-add, sum-δ, sum-change, sum-tight, sum-cong, sum-mul, sum-swap, sum-pick, sum-term, sum-zero, δ-same, δ-other}
+use Rattle.finite.proofs.Sum.{sum_mono, sum-add, sum-δ, sum_change, sum_tight, sum_cong, sum-mul, sum_swap, sum_pick, sum_term, sum-zero, δ_same, δ_other}
 
-pub class-total : (n m : ℕ) (k w : ℕ → ℕ) → Into n m k → sum m (class n k w) ≡ sum n w
+pub class_total : (n m : ℕ) (k w : ℕ → ℕ) → Into n m k → sum m (class n k w) ≡ sum n w
 unfolding class
-class-total n m k w into =
-    sum-swap m n (λ v c. δ (k c) v * w c)
-    ∙ sum-cong n (λ c. sum m (λ v. δ (k c) v * w c)) w (λ c l. sum-pick m (λ v. w c) (k c) (into c l))
+class_total n m k w into =
+    sum_swap m n (λ v c. δ (k c) v * w c)
+    ∙ sum_cong n (λ c. sum m (λ v. δ (k c) v * w c)) w (λ c l. sum_pick m (λ v. w c) (k c) (into c l))
 
-pub class-cong : (n : ℕ) (k w w' : ℕ → ℕ) (v : ℕ) → ((c : ℕ) → c < n → k c ≡ v → w c ≡ w' c) → class n k w v ≡ class n k w' v
+pub class_cong : (n : ℕ) (k w w' : ℕ → ℕ) (v : ℕ) → ((c : ℕ) → c < n → k c ≡ v → w c ≡ w' c) → class n k w v ≡ class n k w' v
 unfolding class
-class-cong n k w w' v h = sum-cong n (λ c. δ (k c) v * w c) (λ c. δ (k c) v * w' c) (λ c l. elim (ℕ_discrete (k c) v) [
+class_cong n k w w' v h = sum_cong n (λ c. δ (k c) v * w c) (λ c. δ (k c) v * w' c) (λ c l. elim (ℕ_discrete (k c) v) [
   | yes e ↦ ap (λ (x : ℕ). δ (k c) v * x) (h c l e)
-  | no d ↦ rw (δ-other (k c) v d) (zero-mul (w c) ∙ sym (zero-mul (w' c)))
+  | no d ↦ rw (δ_other (k c) v d) (zero-mul (w c) ∙ sym (zero-mul (w' c)))
 ])
 
 pub class-zero : (n : ℕ) (k w : ℕ → ℕ) (v : ℕ) → ((c : ℕ) → c < n → k c ≡ v → w c ≡ 0) → class n k w v ≡ 0
 unfolding class
-class-zero n k w v h = class-cong n k w (λ c. 0) v h ∙ sum-zero n (λ c. δ (k c) v * 0) (λ c l. mul-zero (δ (k c) v))
+class-zero n k w v h = class_cong n k w (λ c. 0) v h ∙ sum-zero n (λ c. δ (k c) v * 0) (λ c l. mul-zero (δ (k c) v))
 
 -- a member's weight is at most the class's
-pub class-term : (n : ℕ) (k w : ℕ → ℕ) (c : ℕ) → c < n → w c ≤ class n k w (k c)
+pub class_term : (n : ℕ) (k w : ℕ → ℕ) (c : ℕ) → c < n → w c ≤ class n k w (k c)
 unfolding class
-class-term n k w c l = omega (arith, sum-term n (λ d. δ (k d) (k c) * w d) c l, one-mul (w c), ap (λ (x : ℕ). x * w c) (δ-same (k c)))
+class_term n k w c l = omega (arith, sum_term n (λ d. δ (k d) (k c) * w d) c l, one-mul (w c), ap (λ (x : ℕ). x * w c) (δ_same (k c)))
 
 -- a class of some weight has a member of some weight
-pub class-some : (n : ℕ) (k w : ℕ → ℕ) (v : ℕ) → 0 < class n k w v → (c : ℕ) × (c < n) × ((k c ≡ v) × (0 < w c))
-class-some n k w v pos =
+pub class_some : (n : ℕ) (k w : ℕ → ℕ) (v : ℕ) → 0 < class n k w v → (c : ℕ) × (c < n) × ((k c ≡ v) × (0 < w c))
+class_some n k w v pos =
     elim (any? n (λ c. (k c ≡ v) × (0 < w c)) (λ c. ℕ_discrete (k c) v ×? dec_lt 0 (w c))) [
       | yes t ↦ t
       | no none ↦ absurd (omega (arith, class-zero n k w v (λ c l e. zero_of none c l e (eq-zero-or-pos (w c)))))
@@ -50,21 +50,21 @@ class-some n k w v pos =
 pub class-add : (n : ℕ) (k a b : ℕ → ℕ) (v : ℕ) → class n k (λ c. a c + b c) v ≡ class n k a v + class n k b v
 unfolding class
 class-add n k a b v =
-    sum-cong n (λ c. δ (k c) v * (a c + b c)) (λ c. δ (k c) v * a c + δ (k c) v * b c) (λ c l. mul-add (δ (k c) v) (a c) (b c))
+    sum_cong n (λ c. δ (k c) v * (a c + b c)) (λ c. δ (k c) v * a c + δ (k c) v * b c) (λ c l. mul-add (δ (k c) v) (a c) (b c))
     ∙ sum-add n (λ c. δ (k c) v * a c) (λ c. δ (k c) v * b c)
 
 -- a weight t of the classes, times each class's weight
 pub spread : (N F : ℕ) (k w t : ℕ → ℕ) → Into N F k → sum F (λ f. t f * class N k w f) ≡ sum N (λ v. w v * t (k v))
 unfolding class
 spread N F k w t into =
-    sum-cong F (λ f. t f * class N k w f) (class N k (λ v. w v * t (k v))) (λ f l. pull f) ∙ class-total N F k (λ v. w v * t (k v)) into
+    sum_cong F (λ f. t f * class N k w f) (class N k (λ v. w v * t (k v))) (λ f l. pull f) ∙ class_total N F k (λ v. w v * t (k v)) into
   where
     pull : (f : ℕ) → t f * class N k w f ≡ class N k (λ v. w v * t (k v)) f
     pull f =
         sym (sum-mul N (t f) (λ v. δ (k v) f * w v))
-        ∙ sum-cong N (λ v. t f * (δ (k v) f * w v)) (λ v. δ (k v) f * (w v * t (k v))) (λ v l. elim (ℕ_discrete (k v) f) [
+        ∙ sum_cong N (λ v. t f * (δ (k v) f * w v)) (λ v. δ (k v) f * (w v * t (k v))) (λ v l. elim (ℕ_discrete (k v) f) [
           | yes e ↦ rw (← e) (omega arith)
-          | no d ↦ rw (δ-other (k v) f d) (omega arith)
+          | no d ↦ rw (δ_other (k v) f d) (omega arith)
         ])
 
 -- w is 1 at the events to place, else 0; chosen is the face of each; S is 1 at the events of the set, and t at the faces that it touches
@@ -77,7 +77,7 @@ hall N F w chosen room S t into full inside =
       arith,
       spread N F chosen w t into,
       sum_mono N S (λ v. w v * t (chosen v)) inside,
-      sum-cong F (λ f. t f * class N chosen w f) (λ f. t f * room f) (λ f l. ap (λ (x : ℕ). t f * x) (full f l)),
+      sum_cong F (λ f. t f * class N chosen w f) (λ f. t f * room f) (λ f l. ap (λ (x : ℕ). t f * x) (full f l)),
     )
 
 -- S holds v₀, which has no place; each face that S touches is full, and what is placed there is in S
@@ -92,23 +92,23 @@ cut N F placed chosen room S t v₀ into l full closed =
       sum_mono N (λ v. placed v * t (chosen v) + δ v₀ v) S closed,
       sum-add N (λ v. placed v * t (chosen v)) (δ v₀),
       sum-δ N v₀ l,
-      sum-cong F (λ f. t f * class N chosen placed f) (λ f. t f * room f) full,
+      sum_cong F (λ f. t f * class N chosen placed f) (λ f. t f * room f) full,
     )
 
 -- a class's weight after the event v is placed elsewhere
-pub class-change : (n : ℕ) (k k' w : ℕ → ℕ) (v f : ℕ) → v < n → ((i : ℕ) → i < n → i ≢ v → k i ≡ k' i)
+pub class_change : (n : ℕ) (k k' w : ℕ → ℕ) (v f : ℕ) → v < n → ((i : ℕ) → i < n → i ≢ v → k i ≡ k' i)
     → class n k w f + δ (k' v) f * w v ≡ class n k' w f + δ (k v) f * w v
 unfolding class
-class-change n k k' w v f l h =
-    sum-change n (λ c. δ (k c) f * w c) (λ c. δ (k' c) f * w c) v l (λ i j d. ap (λ (x : ℕ). δ x f * w i) (h i j d))
+class_change n k k' w v f l h =
+    sum_change n (λ c. δ (k c) f * w c) (λ c. δ (k' c) f * w c) v l (λ i j d. ap (λ (x : ℕ). δ x f * w i) (h i j d))
 
 -- the same at a list
 pub class-set : (l : List ℕ) (w : ℕ → ℕ) (v x f : ℕ) → v < length l
     → class (length l) (λ i. get_or l i 0) w f + δ x f * w v ≡ class (length l) (λ i. get_or (set l v x) i 0) w f + δ (get_or l v 0) f * w v
 class-set l w v x f h =
-    rw (get_or-set_same l v x 0 h) at (class-change (length l) (λ i. get_or l i 0) (λ i. get_or (set l v x) i 0) w v f h (λ i k d. sym (get_or-set_other l v i x 0 d)))
+    rw (get_or-set_same l v x 0 h) at (class_change (length l) (λ i. get_or l i 0) (λ i. get_or (set l v x) i 0) w v f h (λ i k d. sym (get_or-set_other l v i x 0 d)))
 
 -- no face over its room, and as many placed as there is room: each face is full
-pub all-full : (N F : ℕ) (chosen w room : ℕ → ℕ) → Into N F chosen → sum N w ≡ sum F room
+pub all_full : (N F : ℕ) (chosen w room : ℕ → ℕ) → Into N F chosen → sum N w ≡ sum F room
     → ((f : ℕ) → f < F → class N chosen w f ≤ room f) → (f : ℕ) → f < F → class N chosen w f ≡ room f
-all-full N F chosen w room into total fit = sum-tight F (class N chosen w) room fit (class-total N F chosen w into ∙ total)
+all_full N F chosen w room into total fit = sum_tight F (class N chosen w) room fit (class_total N F chosen w into ∙ total)

@@ -1,4 +1,4 @@
--- Decisions that compute: a condition's `Dec` is a test and its law in one. `is_yes d` is the test, `is-yes d` and `is-no d` what it shows.
+-- Decisions that compute: a condition's `Dec` is a test and its law in one. `is_yes d` is the test, `is_yes_lem d` and `is_no d` what it shows.
 -- Assumes nothing.
 use mathlib.Core.Path.{◌≡◌, refl, sym, ap, subst}
 use mathlib.Core.Logic.{◌⊎◌, inl, inr}
@@ -19,13 +19,13 @@ abbrev pub is_yes : {A : Type 0} → Dec A → Bool
 is_yes (yes a) = true
 is_yes (no h) = false
 
-pub is-yes : {A : Type 0} (d : Dec A) → T (is_yes d) → A
-is-yes (yes a) t = a
-is-yes (no h) t = absurd t
+pub is_yes_lem : {A : Type 0} (d : Dec A) → T (is_yes d) → A
+is_yes_lem (yes a) t = a
+is_yes_lem (no h) t = absurd t
 
-pub is-no : {A : Type 0} (d : Dec A) → T (not (is_yes d)) → ¬ A
-is-no (yes a) t = absurd t
-is-no (no h) t = h
+pub is_no : {A : Type 0} (d : Dec A) → T (not (is_yes d)) → ¬ A
+is_no (yes a) t = absurd t
+is_no (no h) t = h
 
 pub both_left : (a b : Bool) → T (a && b) → T a
 both_left true b t = tt
@@ -83,14 +83,14 @@ lt? m n = le? (suc m) n
 pub pos_inj : (m n : ℕ) → pos m ≡ pos n → m ≡ n
 pos_inj m n p = cc
 
-pub negsuc-inj : (m n : ℕ) → negsuc m ≡ negsuc n → m ≡ n
-negsuc-inj m n p = cc
+pub negsuc_inj : (m n : ℕ) → negsuc m ≡ negsuc n → m ≡ n
+negsuc_inj m n p = cc
 
 abbrev pub eqℤ? : (m n : ℤ) → Dec (m ≡ n)
 eqℤ? (pos m) (pos n) = map? (ap pos) (pos_inj m n) (eq? m n)
 eqℤ? (pos m) (negsuc n) = no (pos-ne-negsuc m n)
 eqℤ? (negsuc m) (pos n) = no (λ p. pos-ne-negsuc n m (sym p))
-eqℤ? (negsuc m) (negsuc n) = map? (ap negsuc) (negsuc-inj m n) (eq? m n)
+eqℤ? (negsuc m) (negsuc n) = map? (ap negsuc) (negsuc_inj m n) (eq? m n)
 
 -- ---- below a bound
 
@@ -146,24 +146,24 @@ lists? d (x ∷ xs) (y ∷ ys) = map? cons-eq eq-cons (d x y ×? lists? d xs ys)
 abbrev pub same? : (l m : List ℕ) → Dec (l ≡ m)
 same? l m = lists? eq? l m
 
-unfoldable pub same-ℤ? : (l m : List ℤ) → Dec (l ≡ m)
+unfoldable pub same_ℤ? : (l m : List ℤ) → Dec (l ≡ m)
 unfolding eq?
-same-ℤ? l m = lists? eqℤ? l m
+same_ℤ? l m = lists? eqℤ? l m
 
 -- ---- what a list of numbers may satisfy
 
-abbrev pub all-of? : (P : ℕ → Type 0) → ((x : ℕ) → Dec (P x)) → (l : List ℕ) → Dec (All P l)
-all-of? P d [] = yes tt
-all-of? P d (x ∷ xs) = d x ×? all-of? P d xs
+abbrev pub all_of? : (P : ℕ → Type 0) → ((x : ℕ) → Dec (P x)) → (l : List ℕ) → Dec (All P l)
+all_of? P d [] = yes tt
+all_of? P d (x ∷ xs) = d x ×? all_of? P d xs
 
 abbrev pub distinct? : (l : List ℕ) → Dec (Distinct l)
 distinct? [] = yes tt
-distinct? (x ∷ xs) = all-of? (λ y. x ≢ y) (λ y. ¬? (eq? x y)) xs ×? distinct? xs
+distinct? (x ∷ xs) = all_of? (λ y. x ≢ y) (λ y. ¬? (eq? x y)) xs ×? distinct? xs
 
 abbrev pub ascending? : (l : List ℕ) → Dec (Ascending l)
 ascending? [] = yes tt
-ascending? (x ∷ xs) = all-of? (λ y. x < y) (λ y. lt? x y) xs ×? ascending? xs
+ascending? (x ∷ xs) = all_of? (λ y. x < y) (λ y. lt? x y) xs ×? ascending? xs
 
-abbrev pub lowest-first? : (l : List ℕ) → Dec (LowestFirst l)
-lowest-first? [] = yes tt
-lowest-first? (x ∷ xs) = all-of? (λ y. x ≤ y) (λ y. le? x y) xs
+abbrev pub lowest_first? : (l : List ℕ) → Dec (LowestFirst l)
+lowest_first? [] = yes tt
+lowest_first? (x ∷ xs) = all_of? (λ y. x ≤ y) (λ y. le? x y) xs

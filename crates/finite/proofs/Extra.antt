@@ -1,15 +1,15 @@
 -- Laws of tests as bits, of sums over a list and of signed sums. Assumes nothing.
---   bit-yes          a test passes exactly if its bit is 1
+--   bit_yes          a test passes exactly if its bit is 1
 --   eqb_same         two equal numbers pass the test of equality
---   eqb-cases        what the test of equality says
+--   eqb_cases        what the test of equality says
 --   or_left, or_right  one of two tests passes, so they pass together
 --   or-bit           and together they pass no less than the second
---   δ-some           an indicator that is not 0 indicates
+--   δ_some           an indicator that is not 0 indicates
 --   total f l        the sum of f over the list l
---   total-sum        a sum over a list of sums is a sum of sums over the list
---   total-miss       a sum over a list of numbers above v has nothing at v
---   sumℤ-one         a signed sum over the numbers that pass a test, in the natural numbers: each term with one more
---   pos-cancel       a number taken off on both sides
+--   total_sum        a sum over a list of sums is a sum of sums over the list
+--   total_miss       a sum over a list of numbers above v has nothing at v
+--   sumℤ_one         a signed sum over the numbers that pass a test, in the natural numbers: each term with one more
+--   pos_cancel       a number taken off on both sides
 --   less_one         the signed order in the natural numbers: with a number added on both sides
 use mathlib.Core.Path.{◌≡◌, refl, sym, ap, ap₂, ◌∙◌}
 use mathlib.Core.Logic.{◌≢◌, ◌↔◌, ◌⊎◌, inl, inr}
@@ -25,11 +25,11 @@ use lib.Signed.{◌<ℤ◌}
 use Rattle.finite.specs.Sums.{bit, sum, count, δ}
 use Rattle.finite.specs.Lists.{All, sumℤ}
 use Rattle.finite.proofs.Decide.{pos_inj}
-use Rattle.finite.proofs.Sum.{sum-add, sum-zero, δ-other}
+use Rattle.finite.proofs.Sum.{sum-add, sum-zero, δ_other}
 
-pub bit-yes : (b : Bool) → T b ↔ (bit b ≡ 1)
-bit-yes true = (λ t. refl, λ e. tt)
-bit-yes false = (λ t. absurd t, λ e. absurd (omega arith))
+pub bit_yes : (b : Bool) → T b ↔ (bit b ≡ 1)
+bit_yes true = (λ t. refl, λ e. tt)
+bit_yes false = (λ t. absurd t, λ e. absurd (omega arith))
 
 pub eqb_same : (a b : ℕ) → a ≡ b → eqb a b ≡ true
 eqb_same a b e = rw e (go (eqb b b) (eqb_refl b))
@@ -38,15 +38,15 @@ eqb_same a b e = rw e (go (eqb b b) (eqb_refl b))
     go true t = refl
     go false t = absurd t
 
-pub eqb-cases : (a b : ℕ) → ((eqb a b ≡ true) × (a ≡ b)) ⊎ ((eqb a b ≡ false) × (a ≢ b))
-eqb-cases a b = elim (ℕ_discrete a b) [ yes e ↦ inl (eqb_same a b e, e) | no d ↦ inr (go (eqb a b) (λ t. d (eqb→eq a b t)), d) ]
+pub eqb_cases : (a b : ℕ) → ((eqb a b ≡ true) × (a ≡ b)) ⊎ ((eqb a b ≡ false) × (a ≢ b))
+eqb_cases a b = elim (ℕ_discrete a b) [ yes e ↦ inl (eqb_same a b e, e) | no d ↦ inr (go (eqb a b) (λ t. d (eqb→eq a b t)), d) ]
   where
     go : (c : Bool) → (T c → ⊥) → c ≡ false
     go true h = absurd (h tt)
     go false h = refl
 
-pub δ-some : (a b : ℕ) → 0 < δ a b → a ≡ b
-δ-some a b h = elim (ℕ_discrete a b) [ yes e ↦ e | no d ↦ absurd (omega (arith, δ-other a b d)) ]
+pub δ_some : (a b : ℕ) → 0 < δ a b → a ≡ b
+δ_some a b h = elim (ℕ_discrete a b) [ yes e ↦ e | no d ↦ absurd (omega (arith, δ_other a b d)) ]
 
 pub or_left : (a b : Bool) → T a → T (a || b)
 or_left true b t = tt
@@ -67,13 +67,13 @@ abbrev pub total : (ℕ → ℕ) → List ℕ → ℕ
 total f [] = 0
 total f (x ∷ l) = f x + total f l
 
-pub total-sum : (n : ℕ) (f : ℕ → ℕ → ℕ) (l : List ℕ) → total (λ v. sum n (f v)) l ≡ sum n (λ c. total (λ v. f v c) l)
-total-sum n f [] = sym (sum-zero n (λ c. 0) (λ c k. refl))
-total-sum n f (v ∷ l) = ap (λ (x : ℕ). sum n (f v) + x) (total-sum n f l) ∙ sym (sum-add n (f v) (λ c. total (λ u. f u c) l))
+pub total_sum : (n : ℕ) (f : ℕ → ℕ → ℕ) (l : List ℕ) → total (λ v. sum n (f v)) l ≡ sum n (λ c. total (λ v. f v c) l)
+total_sum n f [] = sym (sum-zero n (λ c. 0) (λ c k. refl))
+total_sum n f (v ∷ l) = ap (λ (x : ℕ). sum n (f v) + x) (total_sum n f l) ∙ sym (sum-add n (f v) (λ c. total (λ u. f u c) l))
 
-pub total-miss : (v x : ℕ) (l : List ℕ) → All (λ u. v < u) l → total (λ u. δ v u * x) l ≡ 0
-total-miss v x [] p = refl
-total-miss v x (u ∷ l) p = rw (δ-other v u (λ e. omega (arith, p.0))) (omega (arith, total-miss v x l p.1))
+pub total_miss : (v x : ℕ) (l : List ℕ) → All (λ u. v < u) l → total (λ u. δ v u * x) l ≡ 0
+total_miss v x [] p = refl
+total_miss v x (u ∷ l) p = rw (δ_other v u (λ e. omega (arith, p.0))) (omega (arith, total_miss v x l p.1))
 
 -- ---- signed sums
 
@@ -86,15 +86,15 @@ sum_step true s z c t y e h =
     ∙ ap (λ (x : ℤ). x +ℤ pos y) h
 sum_step false s z c t y e h = ap₂ (λ (x : ℤ) (k : ℕ). x +ℤ pos k) (+ℤ_idr s) (add-zero c) ∙ h ∙ ap pos (sym (add-zero t))
 
-pub sumℤ-one : (n : ℕ) (p : ℕ → Bool) (z : ℕ → ℤ) (y : ℕ → ℕ) → ((k : ℕ) → z k +ℤ pos 1 ≡ pos (y k))
+pub sumℤ_one : (n : ℕ) (p : ℕ → Bool) (z : ℕ → ℤ) (y : ℕ → ℕ) → ((k : ℕ) → z k +ℤ pos 1 ≡ pos (y k))
     → sumℤ n (λ k. cond (p k) (z k) (pos 0)) +ℤ pos (count n p) ≡ pos (sum n (λ k. cond (p k) (y k) 0))
 unfolding sumℤ sum
-sumℤ-one zero p z y e = refl
-sumℤ-one (suc n) p z y e =
-    sum_step (p n) (sumℤ n (λ k. cond (p k) (z k) (pos 0))) (z n) (count n p) (sum n (λ k. cond (p k) (y k) 0)) (y n) (e n) (sumℤ-one n p z y e)
+sumℤ_one zero p z y e = refl
+sumℤ_one (suc n) p z y e =
+    sum_step (p n) (sumℤ n (λ k. cond (p k) (z k) (pos 0))) (z n) (count n p) (sum n (λ k. cond (p k) (y k) 0)) (y n) (e n) (sumℤ_one n p z y e)
 
-pub pos-cancel : (z : ℤ) (c t : ℕ) → z +ℤ pos c ≡ pos (t + c) → z ≡ pos t
-pos-cancel z c t e = sym (+ℤ-neg_ℤ_cancel z (pos c)) ∙ ap (λ (x : ℤ). x -ℤ pos c) e ∙ +ℤ-neg_ℤ_cancel (pos t) (pos c)
+pub pos_cancel : (z : ℤ) (c t : ℕ) → z +ℤ pos c ≡ pos (t + c) → z ≡ pos t
+pos_cancel z c t e = sym (+ℤ-neg_ℤ_cancel z (pos c)) ∙ ap (λ (x : ℤ). x -ℤ pos c) e ∙ +ℤ-neg_ℤ_cancel (pos t) (pos c)
 
 pub less_one : (z : ℤ) (c t k : ℕ) → z +ℤ pos c ≡ pos t → (z <ℤ pos k) ↔ (t < k + c)
 less_one (pos a) c t k e =

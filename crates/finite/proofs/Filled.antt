@@ -14,13 +14,13 @@ use lib.ListN.{length, get_or, take, replicate, length-replicate, get_or-replica
 pub past : (l : List ℕ) (i : ℕ) → length l ≤ i → get_or l i 0 ≡ 0
 past l i h = get_or-eq_default l 0 h
 
-take-filled : (m n x : ℕ) → n ≤ m → take n (replicate m x) ≡ replicate n x
-take-filled m zero x h = refl
-take-filled zero (suc n) x h = absurd (not-suc-le-zero h)
-take-filled (suc m) (suc n) x h = ap (λ (l : List ℕ). x ∷ l) (take-filled m n x (le_of_suc-le-suc h))
+take_filled : (m n x : ℕ) → n ≤ m → take n (replicate m x) ≡ replicate n x
+take_filled m zero x h = refl
+take_filled zero (suc n) x h = absurd (not-suc-le-zero h)
+take_filled (suc m) (suc n) x h = ap (λ (l : List ℕ). x ∷ l) (take_filled m n x (le_of_suc-le-suc h))
 
 pub lent : (m n x : ℕ) → n ≤ m → take (n - 0) (replicate m x) ≡ replicate n x
-lent m n x h = let e : n - 0 ≡ n = omega arith in rw e (take-filled m n x h)
+lent m n x h = let e : n - 0 ≡ n = omega arith in rw e (take_filled m n x h)
 
 pub lent_length : (m n x : ℕ) → n ≤ m → length (take (n - 0) (replicate m x)) ≡ n
 lent_length m n x h = ap length (lent m n x h) ∙ length-replicate n x
@@ -35,10 +35,10 @@ unfoldable pub table : ℕ → (ℕ → ℕ) → List ℕ
 table zero f = []
 table (suc n) f = f 0 ∷ table n (λ i. f (suc i))
 
-pub table-length : (n : ℕ) (f : ℕ → ℕ) → length (table n f) ≡ n
+pub table_length : (n : ℕ) (f : ℕ → ℕ) → length (table n f) ≡ n
 unfolding table
-table-length zero f = refl
-table-length (suc n) f = ap suc (table-length n (λ i. f (suc i)))
+table_length zero f = refl
+table_length (suc n) f = ap suc (table_length n (λ i. f (suc i)))
 
 pub table_at : (n : ℕ) (f : ℕ → ℕ) (i : ℕ) → i < n → get_or (table n f) i 0 ≡ f i
 unfolding table

@@ -1,9 +1,9 @@
 -- Lists of numbers: every entry, ascending, none twice. Assumes nothing.
---   all-at, all_of                a statement of every entry, and of the entry at each place
+--   all_at, all_of                a statement of every entry, and of the entry at each place
 --   below_none                    the list of the numbers that pass a test, where none does
 --   all_map, all_append, all_take, all-below     statements of every entry of related lists
---   ascending-at, ascending-of    a list ascends exactly if a later entry is always larger
---   distinct-few                  a list of numbers below m, none twice, has at most m entries
+--   ascending_at, ascending_of    a list ascends exactly if a later entry is always larger
+--   distinct_few                  a list of numbers below m, none twice, has at most m entries
 use mathlib.Core.Path.{◌≡◌, refl, sym, ap}
 use mathlib.Core.Logic.{◌≢◌}
 use mathlib.Core.Bool.{Bool, true, false, cond}
@@ -14,28 +14,28 @@ use lib.ListN.{length, get_or, take}
 use Rattle.finite.specs.Sums.{below}
 use Rattle.finite.specs.Steps.{Inj}
 use Rattle.finite.specs.Lists.{All, Distinct, Ascending}
-use Rattle.finite.proofs.Perm.{inj-le}
+use Rattle.finite.proofs.Perm.{inj_le}
 
-pub all-at : (P : ℕ → Type 0) (l : List ℕ) → All P l → (i : ℕ) → i < length l → P (get_or l i 0)
-all-at P [] a i h = absurd (omega arith)
-all-at P (x ∷ l) a zero h = a.0
-all-at P (x ∷ l) a (suc i) h = all-at P l a.1 i (omega arith)
+pub all_at : (P : ℕ → Type 0) (l : List ℕ) → All P l → (i : ℕ) → i < length l → P (get_or l i 0)
+all_at P [] a i h = absurd (omega arith)
+all_at P (x ∷ l) a zero h = a.0
+all_at P (x ∷ l) a (suc i) h = all_at P l a.1 i (omega arith)
 
 pub all_of : (P : ℕ → Type 0) (l : List ℕ) → ((i : ℕ) → i < length l → P (get_or l i 0)) → All P l
 all_of P [] at = tt
 all_of P (x ∷ l) at = (at 0 (omega arith), all_of P l (λ i h. at (suc i) (omega arith)))
 
-pub ascending-at : (l : List ℕ) → Ascending l → (i j : ℕ) → i < j → j < length l → get_or l i 0 < get_or l j 0
-ascending-at [] a i j k h = absurd (omega arith)
-ascending-at (x ∷ l) a i zero k h = absurd (omega arith)
-ascending-at (x ∷ l) a zero (suc j) k h = all-at (λ y. x < y) l a.0 j (omega arith)
-ascending-at (x ∷ l) a (suc i) (suc j) k h = ascending-at l a.1 i j (omega arith) (omega arith)
+pub ascending_at : (l : List ℕ) → Ascending l → (i j : ℕ) → i < j → j < length l → get_or l i 0 < get_or l j 0
+ascending_at [] a i j k h = absurd (omega arith)
+ascending_at (x ∷ l) a i zero k h = absurd (omega arith)
+ascending_at (x ∷ l) a zero (suc j) k h = all_at (λ y. x < y) l a.0 j (omega arith)
+ascending_at (x ∷ l) a (suc i) (suc j) k h = ascending_at l a.1 i j (omega arith) (omega arith)
 
-pub ascending-of : (l : List ℕ) → ((i j : ℕ) → i < j → j < length l → get_or l i 0 < get_or l j 0) → Ascending l
-ascending-of [] at = tt
-ascending-of (x ∷ l) at = (
+pub ascending_of : (l : List ℕ) → ((i j : ℕ) → i < j → j < length l → get_or l i 0 < get_or l j 0) → Ascending l
+ascending_of [] at = tt
+ascending_of (x ∷ l) at = (
   all_of (λ y. x < y) l (λ j h. at 0 (suc j) (omega arith) (omega arith)),
-  ascending-of l (λ i j k h. at (suc i) (suc j) (omega arith) (omega arith)),
+  ascending_of l (λ i j k h. at (suc i) (suc j) (omega arith) (omega arith)),
 )
 
 pub all_map : {P Q : ℕ → Type 0} → ((x : ℕ) → P x → Q x) → (l : List ℕ) → All P l → All Q l
@@ -66,16 +66,16 @@ all-below (suc n) p = all_append (λ x. x < suc n) (below n p) (cond (p n) (n �
     go true = (omega arith, tt)
     go false = tt
 
-distinct-inj : (l : List ℕ) → Distinct l → Inj (length l) (λ i. get_or l i 0)
-distinct-inj [] d i j h k e = absurd (omega arith)
-distinct-inj (x ∷ l) d zero zero h k e = refl
-distinct-inj (x ∷ l) d zero (suc j) h k e = absurd (all-at (λ y. x ≢ y) l d.0 j (omega arith) e)
-distinct-inj (x ∷ l) d (suc i) zero h k e = absurd (all-at (λ y. x ≢ y) l d.0 i (omega arith) (sym e))
-distinct-inj (x ∷ l) d (suc i) (suc j) h k e = ap suc (distinct-inj l d.1 i j (omega arith) (omega arith) e)
+distinct_inj : (l : List ℕ) → Distinct l → Inj (length l) (λ i. get_or l i 0)
+distinct_inj [] d i j h k e = absurd (omega arith)
+distinct_inj (x ∷ l) d zero zero h k e = refl
+distinct_inj (x ∷ l) d zero (suc j) h k e = absurd (all_at (λ y. x ≢ y) l d.0 j (omega arith) e)
+distinct_inj (x ∷ l) d (suc i) zero h k e = absurd (all_at (λ y. x ≢ y) l d.0 i (omega arith) (sym e))
+distinct_inj (x ∷ l) d (suc i) (suc j) h k e = ap suc (distinct_inj l d.1 i j (omega arith) (omega arith) e)
 
-pub distinct-few : (m : ℕ) (l : List ℕ) → Distinct l → All (λ x. x < m) l → length l ≤ m
-distinct-few m l d a = inj-le (length l) m (λ i. get_or l i 0) (distinct-inj l d) (all-at (λ x. x < m) l a)
+pub distinct_few : (m : ℕ) (l : List ℕ) → Distinct l → All (λ x. x < m) l → length l ≤ m
+distinct_few m l d a = inj_le (length l) m (λ i. get_or l i 0) (distinct_inj l d) (all_at (λ x. x < m) l a)
 
-pub ascending-distinct : (l : List ℕ) → Ascending l → Distinct l
-ascending-distinct [] a = tt
-ascending-distinct (x ∷ l) a = (all_map (λ y h e. omega arith) l a.0, ascending-distinct l a.1)
+pub ascending_distinct : (l : List ℕ) → Ascending l → Distinct l
+ascending_distinct [] a = tt
+ascending_distinct (x ∷ l) a = (all_map (λ y h e. omega arith) l a.0, ascending_distinct l a.1)

@@ -6,7 +6,7 @@ use native.Mathlib.Decide.{ℕ_discrete, dec_lt}
 use native.Mathlib.Omega.{arith}
 use native.Mathlib.Numerals.{add-one}
 use Rattle.finite.specs.Steps.{iter, Reach, Inj, Into}
-use Rattle.finite.proofs.Orbit.{cycle, iter-into, returns}
+use Rattle.finite.proofs.Orbit.{cycle, iter_into, returns}
 
 -- c is reached from d in k steps, with no return on the way
 pub record Walk (p : ℕ → ℕ) (d k c : ℕ) : Type 0 where
@@ -27,15 +27,15 @@ walk_step p d k c W q = record {
   ];
 }
 
-pub walk-few : (n : ℕ) (p : ℕ → ℕ) (d k c : ℕ) → Inj n p → Into n n p → d < n → Walk p d k c → k < n
-walk-few n p d k c inj into l W =
+pub walk_few : (n : ℕ) (p : ℕ → ℕ) (d k c : ℕ) → Inj n p → Into n n p → d < n → Walk p d k c → k < n
+walk_few n p d k c inj into l W =
     let t = returns n p inj into d l in
     let a : 0 < t.0 = t.1 in
     let b : t.0 ≤ n = t.2 in
     elim (dec_lt k t.0) [ yes q ↦ omega arith | no q ↦ absurd (W.fresh t.0 a (omega arith) t.3) ]
 
-pub walk-into : (n : ℕ) (p : ℕ → ℕ) (d k c : ℕ) → Inj n p → Into n n p → d < n → Walk p d k c → c < n
-walk-into n p d k c inj into l W = rw W.here (iter-into n p into k d l)
+pub walk_into : (n : ℕ) (p : ℕ → ℕ) (d k c : ℕ) → Inj n p → Into n n p → d < n → Walk p d k c → c < n
+walk_into n p d k c inj into l W = rw W.here (iter_into n p into k d l)
 
 -- whatever is reached was met
 pub walk-all : (p : ℕ → ℕ) (d k c : ℕ) → Walk p d k c → p c ≡ d → (e : ℕ) → Reach p d e → (j : ℕ) × (j ≤ k) × (iter p j d ≡ e)

@@ -7,34 +7,34 @@ use lib.Dec.{eqb, ltb}
 use native.Mathlib.Omega.{arith}
 use Rattle.finite.specs.Says.{Says}
 
-pub says-yes : {P : Type 0} {b : Bool} → b ≡ true → Says b P → P
-says-yes {P} e s = subst (λ (b : Bool). Says b P) e s
+pub says_yes : {P : Type 0} {b : Bool} → b ≡ true → Says b P → P
+says_yes {P} e s = subst (λ (b : Bool). Says b P) e s
 
-pub says-no : {P : Type 0} {b : Bool} → b ≡ false → Says b P → P → ⊥
-says-no {P} e s = subst (λ (b : Bool). Says b P) e s
+pub says_no : {P : Type 0} {b : Bool} → b ≡ false → Says b P → P → ⊥
+says_no {P} e s = subst (λ (b : Bool). Says b P) e s
 
 -- the same for an equivalent statement
-pub says-as : {P Q : Type 0} (b : Bool) → (P → Q) → (Q → P) → Says b P → Says b Q
-says-as true f g s = f s
-says-as false f g s = λ q. s (g q)
+pub says_as : {P Q : Type 0} (b : Bool) → (P → Q) → (Q → P) → Says b P → Says b Q
+says_as true f g s = f s
+says_as false f g s = λ q. s (g q)
 
 -- where the code tests `!b`
-pub says-unless : {P : Type 0} (b : Bool) → not b ≡ true → Says b P → P → ⊥
-says-unless b e s = says-no (not-true b e) s
+pub says_unless : {P : Type 0} (b : Bool) → not b ≡ true → Says b P → P → ⊥
+says_unless b e s = says_no (not-true b e) s
 
-pub says-still : {P : Type 0} (b : Bool) → not b ≡ false → Says b P → P
-says-still b e s = says-yes (not-false b e) s
+pub says_still : {P : Type 0} (b : Bool) → not b ≡ false → Says b P → P
+says_still b e s = says_yes (not-false b e) s
 
 -- the tests of two numbers say what they seem to
-pub says-equal : (a b : ℕ) → Says (eqb a b) (a ≡ b)
-says-equal a b = go (eqb a b) refl
+pub says_equal : (a b : ℕ) → Says (eqb a b) (a ≡ b)
+says_equal a b = go (eqb a b) refl
   where
     go : (r : Bool) → eqb a b ≡ r → Says r (a ≡ b)
     go true q = eqb-true a b q
     go false q = eqb-false a b q
 
-pub says-lt : (a b : ℕ) → Says (ltb a b) (a < b)
-says-lt a b = go (ltb a b) refl
+pub says_lt : (a b : ℕ) → Says (ltb a b) (a < b)
+says_lt a b = go (ltb a b) refl
   where
     go : (r : Bool) → ltb a b ≡ r → Says r (a < b)
     go true q = ltb-true a b q

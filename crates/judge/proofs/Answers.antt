@@ -1,7 +1,7 @@
 -- The judge's answer is one: the verdict fixes its case and its value. Assumes nothing.
---   said-case                                the answer for a verdict says this verdict
---   refused-file, refused-drawn, deserved     the three ways to an answer
---   answered-unique                          two answers to one chart and one report are the same
+--   said_case                                the answer for a verdict says this verdict
+--   refused_file, refused_drawn, deserved     the three ways to an answer
+--   answered_unique                          two answers to one chart and one report are the same
 use mathlib.Core.Path.{◌≡◌, refl, sym, ap, ◌∙◌}
 use mathlib.Core.Logic.{◌≢◌, inl, inr}
 use mathlib.Core.Bool.{Bool, true, false, cond}
@@ -14,8 +14,8 @@ use Rattle.rules.specs.Chart.{drawing}
 use Rattle.rules.specs.Tests.{Given, faults}
 use Rattle.rules.specs.Judge as rules
 use Rattle.rules.specs.Judge.{Judged}
-use Rattle.rules.proofs.Chain.{given-left, given-append, given-highest, given-lowest}
-use Rattle.rules.proofs.Unique.{judged-unique}
+use Rattle.rules.proofs.Chain.{given_left, given_append, given_highest, given_lowest}
+use Rattle.rules.proofs.Unique.{judged_unique}
 use Rattle.chart.specs.Form.{form_tests}
 use Rattle.survey.specs.Past.{survey_tests}
 use Rattle.judge.specs.Verdicts.{verdict_of, case_of, Answered, Reported}
@@ -24,13 +24,13 @@ use Rattle.judge.specs.declared.Fault.TheVariants.{Form, Evidence}
 use Rattle.judge.specs.declared.Verdict.{Verdict}
 use Rattle.judge.specs.declared.Verdict.TheVariants.{Chart, Report}
 
-pub said-case : (v : rules.Verdict) → verdict_of (case_of v) ≡ v
-said-case (rules.chart n) = go (leb n 8)
+pub said_case : (v : rules.Verdict) → verdict_of (case_of v) ≡ v
+said_case (rules.chart n) = go (leb n 8)
   where
     go : (b : Bool) → verdict_of (Chart (cond b (File n) (Drawn n))) ≡ rules.chart n
     go true = refl
     go false = refl
-said-case (rules.J j) =
+said_case (rules.J j) =
     elim (ℕ_discrete j 0) [
       | yes e ↦ rw e refl
       | no z ↦ elim (ℕ_discrete j 1) [
@@ -49,22 +49,22 @@ module _ (s r : List ℕ) (n : ℕ) (some : n ≢ 0) where
   refused : Given faults s 0 n → Judged s r (rules.chart n)
   refused g = inl (n, some, g, refl)
 
-  pub refused-file : Given form_tests s 0 n → Answered s r (Chart (File n))
-  refused-file g = record {
-    judged = refused (given-left form_tests survey_tests s 0 n some g);
-    stands = sym (ap (λ (b : Bool). Chart (cond b (File n) (Drawn n))) (le-leb n 8 (given-highest form_tests s 0 n g)));
+  pub refused_file : Given form_tests s 0 n → Answered s r (Chart (File n))
+  refused_file g = record {
+    judged = refused (given_left form_tests survey_tests s 0 n some g);
+    stands = sym (ap (λ (b : Bool). Chart (cond b (File n) (Drawn n))) (le-leb n 8 (given_highest form_tests s 0 n g)));
   }
 
-  pub refused-drawn : Given form_tests s 0 0 → Given survey_tests s 0 n → Answered s r (Chart (Drawn n))
-  refused-drawn f g = record {
-    judged = refused (given-append form_tests survey_tests s 0 n f g);
-    stands = sym (ap (λ (b : Bool). Chart (cond b (File n) (Drawn n))) (lt-leb n 8 (given-lowest survey_tests s 0 n some g)));
+  pub refused_drawn : Given form_tests s 0 0 → Given survey_tests s 0 n → Answered s r (Chart (Drawn n))
+  refused_drawn f g = record {
+    judged = refused (given_append form_tests survey_tests s 0 n f g);
+    stands = sym (ap (λ (b : Bool). Chart (cond b (File n) (Drawn n))) (lt-leb n 8 (given_lowest survey_tests s 0 n some g)));
   }
 
 pub deserved : (s r : List ℕ) (a : Verdict) → Given faults s 0 0 → Reported (drawing s) r a → Answered s r a
 deserved s r a g w =
-    let says : verdict_of a ≡ rules.J w.0 = ap verdict_of w.2 ∙ said-case (rules.J w.0) in
+    let says : verdict_of a ≡ rules.J w.0 = ap verdict_of w.2 ∙ said_case (rules.J w.0) in
     record { judged = inr (w.0, g, w.1, says); stands = w.2 ∙ ap case_of (sym says) }
 
-pub answered-unique : (s r : List ℕ) (a b : Verdict) → Answered s r a → Answered s r b → a ≡ b
-answered-unique s r a b p q = p.stands ∙ ap case_of (judged-unique s r (verdict_of a) (verdict_of b) p.judged q.judged) ∙ sym q.stands
+pub answered_unique : (s r : List ℕ) (a b : Verdict) → Answered s r a → Answered s r b → a ≡ b
+answered_unique s r a b p q = p.stands ∙ ap case_of (judged_unique s r (verdict_of a) (verdict_of b) p.judged q.judged) ∙ sym q.stands

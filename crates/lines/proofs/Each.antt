@@ -17,16 +17,16 @@ use Rattle.rules.specs.Listing.{ascii, decimal, each}
 use Rattle.words.specs.Tables.{nth}
 use Rattle.lines.specs.Text.{line, pair}
 use Rattle.lines.specs.Follow.{entry, pairs, Table}
-use Rattle.lines.proofs.Decimal.{length-four, decimal-short, named-short}
+use Rattle.lines.proofs.Decimal.{length_four, decimal_short, named_short}
 
 each_append : (f : ℕ → List ℕ) (l m : List ℕ) → each f (l ++ m) ≡ each f l ++ each f m
 unfolding each
 each_append f [] m = refl
 each_append f (x ∷ l) m = ap (λ (t : List ℕ). f x ++ t) (each_append f l m) ∙ sym (append_assoc (f x) (each f l) (each f m))
 
-each-one : (f : ℕ → List ℕ) (x : ℕ) → each f (x ∷ []) ≡ f x
+each_one : (f : ℕ → List ℕ) (x : ℕ) → each f (x ∷ []) ≡ f x
 unfolding each
-each-one f x = append-nil (f x)
+each_one f x = append-nil (f x)
 
 -- ---- 16-bit numbers
 
@@ -41,7 +41,7 @@ words_last s i (suc n) =
 pub words_more : (f : ℕ → List ℕ) (s : List ℕ) (n x : ℕ) → x ≡ u16 s (2 * n) → each f (words s 0 n) ++ f x ≡ each f (words s 0 (n + 1))
 words_more f s n x e =
     let k : 2 * n ≡ 0 + 2 * n = omega arith in
-    ap (λ (t : List ℕ). each f (words s 0 n) ++ t) (ap f (e ∙ ap (u16 s) k) ∙ sym (each-one f (u16 s (0 + 2 * n))))
+    ap (λ (t : List ℕ). each f (words s 0 n) ++ t) (ap f (e ∙ ap (u16 s) k) ∙ sym (each_one f (u16 s (0 + 2 * n))))
     ∙ sym (each_append f (words s 0 n) (u16 s (0 + 2 * n) ∷ []))
     ∙ ap (each f) (sym (words_last s 0 n) ∙ ap (words s 0) (sym (add-one n)))
 
@@ -52,9 +52,9 @@ words-all P s i (suc n) zero h a = let e : i ≡ i + 2 * 0 = omega arith in rw (
 words-all P s i (suc n) (suc d) h a =
     let e : i + 2 + 2 * d ≡ i + 2 * suc d = omega arith in rw (← e) (words-all P s (i + 2) n d (le_of_suc-le-suc h) a.1)
 
-pub line-short : (w : List ℕ) (x : ℕ) → x < 10000 → length (line w x) ≤ length w + 5
+pub line_short : (w : List ℕ) (x : ℕ) → x < 10000 → length (line w x) ≤ length w + 5
 unfolding ascii
-line-short w x l = omega (arith, length-append (w ++ decimal x) (ascii "\n"), named-short w x l)
+line_short w x l = omega (arith, length-append (w ++ decimal x) (ascii "\n"), named_short w x l)
 
 -- ---- events and corners
 
@@ -68,13 +68,13 @@ unfolding below
 each_below f n p = each_append f (below n p) (cond (p n) (n ∷ []) []) ∙ ap (λ (t : List ℕ). each f (below n p) ++ t) (each-cond f n (p n))
 
 -- the same entries, with the same lines
-pub each-cong : (f h : ℕ → List ℕ) (n : ℕ) (p q : ℕ → Bool) → ((v : ℕ) → v < n → (p v ≡ q v) × (T (q v) → f v ≡ h v)) → each f (below n p) ≡ each h (below n q)
+pub each_cong : (f h : ℕ → List ℕ) (n : ℕ) (p q : ℕ → Bool) → ((v : ℕ) → v < n → (p v ≡ q v) × (T (q v) → f v ≡ h v)) → each f (below n p) ≡ each h (below n q)
 unfolding below each
-each-cong f h zero p q e = refl
-each-cong f h (suc n) p q e =
+each_cong f h zero p q e = refl
+each_cong f h (suc n) p q e =
     let l = e n (omega arith) in
     each_below f n p
-    ∙ ap₂ ◌++◌ (each-cong f h n p q (λ v k. e v (omega arith))) (ap (λ (b : Bool). cond b (f n) []) l.0 ∙ go (q n) l.1)
+    ∙ ap₂ ◌++◌ (each_cong f h n p q (λ v k. e v (omega arith))) (ap (λ (b : Bool). cond b (f n) []) l.0 ∙ go (q n) l.1)
     ∙ sym (each_below h n q)
   where
     go : (b : Bool) → (T b → f n ≡ h n) → cond b (f n) [] ≡ cond b (h n) []
@@ -82,26 +82,26 @@ each-cong f h (suc n) p q e =
     go false g = refl
 
 -- the line of the next event
-pub pairs-more : (t : List ℕ) (v : ℕ) → pairs t v ++ entry t v ≡ pairs t (v + 1)
-pairs-more t v = sym (ap (pairs t) (add-one v) ∙ each_below (λ u. pair u (nth t u)) v _)
+pub pairs_more : (t : List ℕ) (v : ℕ) → pairs t v ++ entry t v ≡ pairs t (v + 1)
+pairs_more t v = sym (ap (pairs t) (add-one v) ∙ each_below (λ u. pair u (nth t u)) v _)
 
 pub entry-none : (t : List ℕ) (v : ℕ) → 65535 ≤ nth t v → entry t v ≡ []
 entry-none t v l = rw (le-ltb (nth t v) 65535 l)
 
-pub entry-some : (t : List ℕ) (v : ℕ) → nth t v < 65535 → entry t v ≡ pair v (nth t v)
-entry-some t v l = rw (lt-ltb (nth t v) 65535 l)
+pub entry_some : (t : List ℕ) (v : ℕ) → nth t v < 65535 → entry t v ≡ pair v (nth t v)
+entry_some t v l = rw (lt-ltb (nth t v) 65535 l)
 
-pair-short : (v c : ℕ) → v < 10000 → c < 10000 → length (pair v c) ≤ 23
+pair_short : (v c : ℕ) → v < 10000 → c < 10000 → length (pair v c) ≤ 23
 unfolding ascii
-pair-short v c l k =
+pair_short v c l k =
     let w : List ℕ = ascii "event " ++ decimal v in
-    omega (arith, length-four w (ascii " corner ") (decimal c) (ascii "\n"), named-short (ascii "event ") v l, decimal-short c k)
+    omega (arith, length_four w (ascii " corner ") (decimal c) (ascii "\n"), named_short (ascii "event ") v l, decimal_short c k)
 
-pub entry-short : (t : List ℕ) (v : ℕ) → Table t → v < length t → length (entry t v) ≤ 23
-entry-short t v T l =
+pub entry_short : (t : List ℕ) (v : ℕ) → Table t → v < length t → length (entry t v) ≤ 23
+entry_short t v T l =
     elim (dec_lt (nth t v) 65535) [
       | yes y ↦
           let c : nth t v < 10000 = omega (arith, T.low v l y) in
-          omega (arith, ap length (entry-some t v y), pair-short v (nth t v) (omega (arith, T.size)) c)
+          omega (arith, ap length (entry_some t v y), pair_short v (nth t v) (omega (arith, T.size)) c)
       | no z ↦ omega (arith, ap length (entry-none t v (omega arith)))
     ]

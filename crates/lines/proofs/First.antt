@@ -13,14 +13,14 @@ use lib.Dec.{T, eqb, ltb}
 use lib.ListN.{length, get_or, set, replicate, length-set, length-replicate, get_or-replicate}
 use lib.Seq.{get_or-set_same, get_or-set_other}
 use Rattle.finite.specs.Sums.{bit, δ, class, below}
-use Rattle.finite.proofs.Sum.{sum-cong, below_length}
+use Rattle.finite.proofs.Sum.{sum_cong, below_length}
 use Rattle.drawing.specs.Drawing.{Drawing, darts, event, pole}
 use Rattle.drawing.specs.Conditions.{label, larges, Labelling}
 use Rattle.rules.specs.Listing.{large_corner}
 use Rattle.words.specs.Tables.{nth}
 use Rattle.lines.specs.Text.{pair}
 use Rattle.lines.specs.Follow.{placed, pairs, large_at, Noted, Table, corners}
-use Rattle.lines.proofs.Each.{each-cong}
+use Rattle.lines.proofs.Each.{each_cong}
 
 -- the first number below n that passes the test p, or 65535
 first : ℕ → (ℕ → Bool) → ℕ
@@ -33,16 +33,16 @@ below_more n p = ap (λ (k : ℕ). below k p) (add-one n)
 -- ---- one more number
 
 module _ (n : ℕ) (p : ℕ → Bool) where
-  below-skip : p n ≡ false → below (n + 1) p ≡ below n p
-  below-skip e = below_more n p ∙ ap (λ (b : Bool). below n p ++ cond b (n ∷ []) []) e ∙ append-nil (below n p)
+  below_skip : p n ≡ false → below (n + 1) p ≡ below n p
+  below_skip e = below_more n p ∙ ap (λ (b : Bool). below n p ++ cond b (n ∷ []) []) e ∙ append-nil (below n p)
 
   below-take : p n ≡ true → below (n + 1) p ≡ below n p ++ (n ∷ [])
   below-take e = below_more n p ∙ ap (λ (b : Bool). below n p ++ cond b (n ∷ []) []) e
 
 -- a list's first entry stays
-first-stays : (m k : List ℕ) → get_or m 0 65535 < 65535 → get_or (m ++ k) 0 65535 ≡ get_or m 0 65535
-first-stays [] k l = absurd (omega arith)
-first-stays (x ∷ m) k l = refl
+first_stays : (m k : List ℕ) → get_or m 0 65535 < 65535 → get_or (m ++ k) 0 65535 ≡ get_or m 0 65535
+first_stays [] k l = absurd (omega arith)
+first_stays (x ∷ m) k l = refl
 
 -- nothing was found, or it is below n
 first_found : (n : ℕ) (p : ℕ → Bool) → (below n p ≡ []) ⊎ (first n p < n)
@@ -56,8 +56,8 @@ first_found (suc n) p = go (below n p) (p n) (first_found n p)
     go (x ∷ m) b (inl e) = let z : ◌≡◌ {A = ℕ} 0 1 = cc in absurd (omega arith)
     go (x ∷ m) b (inr l) = inr (omega arith)
 
-first-none : (n : ℕ) (p : ℕ → Bool) → n ≤ 65535 → 65535 ≤ first n p → below n p ≡ []
-first-none n p few l = go (first_found n p)
+first_none : (n : ℕ) (p : ℕ → Bool) → n ≤ 65535 → 65535 ≤ first n p → below n p ≡ []
+first_none n p few l = go (first_found n p)
   where
     go : (below n p ≡ []) ⊎ (first n p < n) → below n p ≡ []
     go (inl e) = e
@@ -65,52 +65,52 @@ first-none n p few l = go (first_found n p)
 
 -- ---- the table
 
-pub note-start : (g : Drawing) (l : List ℕ) (n : ℕ) → n ≡ g.events → Noted g l 0 (replicate n 65535)
+pub note_start : (g : Drawing) (l : List ℕ) (n : ℕ) → n ≡ g.events → Noted g l 0 (replicate n 65535)
 unfolding below
-note-start g l n e = record { size = length-replicate n 65535 ∙ e; each = λ v k. get_or-replicate n v 65535 0 (omega arith) }
+note_start g l n e = record { size = length-replicate n 65535 ∙ e; each = λ v k. get_or-replicate n v 65535 0 (omega arith) }
 
-and-false : (a b : Bool) → b ≡ false → (a && b) ≡ false
-and-false true b e = e
-and-false false b e = refl
+and_false : (a b : Bool) → b ≡ false → (a && b) ≡ false
+and_false true b e = e
+and_false false b e = refl
 
 module _ (g : Drawing) (l : List ℕ) (c : ℕ) (t : List ℕ) (N : Noted g l c t) where
   skip : (v : ℕ) → v < g.events → large_at g l v c ≡ false → nth t v ≡ first (c + 1) (large_at g l v)
   unfolding first
-  skip v k e = N.each v k ∙ ap (λ (m : List ℕ). get_or m 0 65535) (sym (below-skip c (large_at g l v) e))
+  skip v k e = N.each v k ∙ ap (λ (m : List ℕ). get_or m 0 65535) (sym (below_skip c (large_at g l v) e))
 
   elsewhere : (v : ℕ) → event g c ≢ v → large_at g l v c ≡ false
   elsewhere v d = ap (λ (b : Bool). b && eqb (label l c) 2) (ne_eqb (event g c) v d)
 
   -- the corner is not large
-  pub note-small : label l c ≢ 2 → Noted g l (c + 1) t
+  pub note_small : label l c ≢ 2 → Noted g l (c + 1) t
   unfolding first
-  note-small d = record { size = N.size; each = λ v k. skip v k (and-false (eqb (event g c) v) (eqb (label l c) 2) (ne_eqb (label l c) 2 d)) }
+  note_small d = record { size = N.size; each = λ v k. skip v k (and_false (eqb (event g c) v) (eqb (label l c) 2) (ne_eqb (label l c) 2 d)) }
 
   module _ (e : ℕ) (at : e ≡ event g c) (known : e < g.events) where
     -- its event has a large corner already
-    pub note-kept : nth t e < 65535 → Noted g l (c + 1) t
+    pub note_kept : nth t e < 65535 → Noted g l (c + 1) t
     unfolding first
-    note-kept h = record {
+    note_kept h = record {
       size = N.size;
       each = λ v k. elim (ℕ_discrete (event g c) v) [
         | yes q ↦
             let same : nth t v ≡ nth t e = ap (nth t) (sym (at ∙ q)) in
             let low : get_or (below c (large_at g l v)) 0 65535 < 65535 = omega (arith, N.each v k) in
-            N.each v k ∙ sym (ap (λ (m : List ℕ). get_or m 0 65535) (below_more c (large_at g l v)) ∙ first-stays (below c (large_at g l v)) _ low)
+            N.each v k ∙ sym (ap (λ (m : List ℕ). get_or m 0 65535) (below_more c (large_at g l v)) ∙ first_stays (below c (large_at g l v)) _ low)
         | no d ↦ skip v k (elsewhere v d)
       ];
     }
 
     -- it is the first
-    pub note-new : c ≤ 6144 → label l c ≡ 2 → 65535 ≤ nth t e → Noted g l (c + 1) (set t e c)
+    pub note_new : c ≤ 6144 → label l c ≡ 2 → 65535 ≤ nth t e → Noted g l (c + 1) (set t e c)
     unfolding first
-    note-new few large none = record {
+    note_new few large none = record {
       size = length-set t e c ∙ N.size;
       each = λ v k. elim (ℕ_discrete (event g c) v) [
         | yes q ↦
             let p = large_at g l v in
             let same : nth t v ≡ nth t e = ap (nth t) (sym (at ∙ q)) in
-            let empty : below c p ≡ [] = first-none c p (omega arith) (omega (arith, N.each v k)) in
+            let empty : below c p ≡ [] = first_none c p (omega arith) (omega (arith, N.each v k)) in
             let is : p c ≡ true = ap₂ ◌&&◌ (eq-eqb (event g c) v q) (eq-eqb (label l c) 2 large) in
             ap (nth (set t e c)) (sym (at ∙ q)) ∙ get_or-set_same t e c 0 (omega (arith, N.size))
             ∙ sym (ap (λ (m : List ℕ). get_or m 0 65535) (below-take c p is ∙ ap (λ (m : List ℕ). m ++ (c ∷ [])) empty))
@@ -119,9 +119,9 @@ module _ (g : Drawing) (l : List ℕ) (c : ℕ) (t : List ℕ) (N : Noted g l c 
     }
 
 -- the whole table
-pub noted-table : (g : Drawing) (l : List ℕ) (n : ℕ) (t : List ℕ) → Noted g l n t → n ≤ 6144 → g.events ≤ 1024 → Table t
+pub noted_table : (g : Drawing) (l : List ℕ) (n : ℕ) (t : List ℕ) → Noted g l n t → n ≤ 6144 → g.events ≤ 1024 → Table t
 unfolding first
-noted-table g l n t N few some = record { size = omega (arith, N.size); low = λ v k h. go v (omega (arith, N.size)) h (first_found n (large_at g l v)) }
+noted_table g l n t N few some = record { size = omega (arith, N.size); low = λ v k h. go v (omega (arith, N.size)) h (first_found n (large_at g l v)) }
   where
     go : (v : ℕ) → v < g.events → nth t v < 65535 → (below n (large_at g l v) ≡ []) ⊎ (first n (large_at g l v) < n) → nth t v < 6144
     go v k h (inl e) = absurd (omega (arith, N.each v k, ap (λ (m : List ℕ). get_or m 0 65535) e))
@@ -139,7 +139,7 @@ module _ (g : Drawing) (l : List ℕ) (L : Labelling g l) (few : darts g ≤ 614
   unfolding larges class δ
   large-count v k =
       below_length (darts g) (large_at g l v)
-      ∙ sum-cong (darts g) (λ c. bit (large_at g l v c)) (λ c. bit (eqb (event g c) v) * bit (eqb (label l c) 2)) (λ c h. bit_and (eqb (event g c) v) (eqb (label l c) 2))
+      ∙ sum_cong (darts g) (λ c. bit (large_at g l v c)) (λ c. bit (eqb (event g c) v) * bit (eqb (label l c) 2)) (λ c h. bit_and (eqb (event g c) v) (eqb (label l c) 2))
       ∙ L.events v k
 
   -- so the table has a corner for exactly those, and it is the large one
@@ -159,8 +159,8 @@ module _ (g : Drawing) (l : List ℕ) (L : Labelling g l) (few : darts g ≤ 614
   unfolding first
   all-corners t N =
       ap (pairs t) N.size
-      ∙ each-cong (λ v. pair v (nth t v)) (λ v. pair v (large_corner g l v)) g.events (placed t) (pole g)
+      ∙ each_cong (λ v. pair v (nth t v)) (λ v. pair v (large_corner g l v)) g.events (placed t) (pole g)
       (λ v k. (ap (λ (x : ℕ). ltb x 65535) (N.each v k) ∙ (found v k).0, λ h. ap (pair v) (N.each v k ∙ (found v k).1 h)))
 
-pub table-corners : {g : Drawing} {l t : List ℕ} {n : ℕ} → Labelling g l → n ≡ darts g → n ≤ 6144 → Noted g l n t → pairs t (length t) ≡ corners g l
-table-corners {g} {l} {t} L e few N = all-corners g l L (omega arith) t (subst (λ (k : ℕ). Noted g l k t) e N)
+pub table_corners : {g : Drawing} {l t : List ℕ} {n : ℕ} → Labelling g l → n ≡ darts g → n ≤ 6144 → Noted g l n t → pairs t (length t) ≡ corners g l
+table_corners {g} {l} {t} L e few N = all-corners g l L (omega arith) t (subst (λ (k : ℕ). Noted g l k t) e N)

@@ -5,7 +5,7 @@ use mathlib.Core.List.{List}
 use Prim.Native.Nat.{ℕ, ◌≤◌, ◌<◌}
 use native.Mathlib.Omega.{arith}
 use lib.ListN.{length}
-use Rattle.finite.proofs.Decide.{is-yes, all?, le?}
+use Rattle.finite.proofs.Decide.{is_yes_lem, all?, le?}
 use Rattle.rules.specs.Listing.{saying, ascii}
 use Rattle.lines.specs.Text.{Wrote}
 use Rattle.lines.proofs.Text.{wrote_as}
@@ -14,13 +14,13 @@ pub says : {n : ℕ} (k : ℕ) {s s' : List ℕ} {at r : ℕ} → n ≡ k → Wr
 says k e w = wrote_as w (sym (ap saying e))
 
 -- the longest words are `unknown event`
-pub saying-short : (n : ℕ) → n < 15 → length (saying n) ≤ 13
+pub saying_short : (n : ℕ) → n < 15 → length (saying n) ≤ 13
 unfolding saying ascii all? le?
-saying-short = is-yes (all? 15 (λ n. length (saying n) ≤ 13) (λ n. le? (length (saying n)) 13)) tt
+saying_short = is_yes_lem (all? 15 (λ n. length (saying n) ≤ 13) (λ n. le? (length (saying n)) 13)) tt
 
 -- the numbers that a `match` leaves
-pub of-file : {n : ℕ} → n ≢ 0 → n ≢ 1 → n < 9 → (2 ≤ n) × (n ≤ 8)
-of-file a b l = (omega arith, omega arith)
+pub of_file : {n : ℕ} → n ≢ 0 → n ≢ 1 → n < 9 → (2 ≤ n) × (n ≤ 8)
+of_file a b l = (omega arith, omega arith)
 
 pub no_lines : {n : ℕ} → (2 ≤ n) × (n ≤ 8) → (1 ≤ n) × (n ≤ 11)
 no_lines h = (omega arith, omega arith)

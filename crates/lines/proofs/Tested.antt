@@ -12,7 +12,7 @@ use Rattle.drawing.specs.Conditions.{EventsKnown}
 use Rattle.rules.specs.Chart.{drawing}
 use Rattle.rules.specs.Tests.{Test, number, Passes, Given, report_room, tests, short, mark, version, counts, size, unknown}
 use Rattle.rules.specs.Report.{writes, report, Outcome}
-use Rattle.rules.proofs.Chain.{given-highest}
+use Rattle.rules.proofs.Chain.{given_highest}
 use Rattle.rules.proofs.Bytes.{darts-drawing}
 use Rattle.chart.specs.Shape.{Shape}
 use Rattle.chart.proofs.Form.{shape}
@@ -23,8 +23,8 @@ past : (t : Test) (ts : List Test) (s : List ℕ) (r n : ℕ) → (T (writes (nu
 past t ts s r n none w (inl g) = absurd (none (subst (λ (k : ℕ). T (writes k)) g.1 w))
 past t ts s r n none w (inr g) = g
 
-pub given-shape : (s : List ℕ) (r n : ℕ) → Given tests s r n → T (writes n) → Shape s (darts (drawing s)) × EventsKnown (drawing s)
-given-shape s r n g w =
+pub given_shape : (s : List ℕ) (r n : ℕ) → Given tests s r n → T (writes n) → Shape s (darts (drawing s)) × EventsKnown (drawing s)
+given_shape s r n g w =
     let a = past short (drop 1 tests) s r n (λ f. f) w g in
     let b = past mark (drop 2 tests) s r n (λ f. f) w a.1 in
     let c = past version (drop 3 tests) s r n (λ f. f) w b.1 in
@@ -35,16 +35,16 @@ given-shape s r n g w =
 
 module _ (s r : List ℕ) (n w : ℕ) (r' : List ℕ) (O : Outcome s r n w r') where
   -- the stretch that the test wrote
-  pub outcome-stretch : take w r' ≡ report n O.entries
-  outcome-stretch = ap (take w) O.left ∙ take_at (report n O.entries) _ w (sym O.written)
+  pub outcome_stretch : take w r' ≡ report n O.entries
+  outcome_stretch = ap (take w) O.left ∙ take_at (report n O.entries) _ w (sym O.written)
 
-  pub outcome-reported : length r' ≤ report_room → Reported s n (take w r')
-  outcome-reported room = record {
+  pub outcome_reported : length r' ≤ report_room → Reported s n (take w r')
+  outcome_reported room = record {
     entries = O.entries;
-    stretch = outcome-stretch;
+    stretch = outcome_stretch;
     allowed = O.allowed;
-    small = given-highest tests s (length r) n O.given;
+    small = given_highest tests s (length r) n O.given;
     room = omega (arith, length-take w r');
-    shape = λ t. (given-shape s (length r) n O.given t).0;
-    known = λ t. (given-shape s (length r) n O.given t).1;
+    shape = λ t. (given_shape s (length r) n O.given t).0;
+    known = λ t. (given_shape s (length r) n O.given t).1;
   }

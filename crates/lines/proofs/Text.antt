@@ -18,9 +18,9 @@ module _ (s t : List ℕ) (at : ℕ) (room : at + length t ≤ length s) where
   over-length =
       omega (arith, length-append (take at s ++ t) (drop (at + length t) s), head-length, length-drop (at + length t) s)
 
-  over-then : (u : List ℕ) → over (over s at t) (at + length t) u ≡ over s at (t ++ u)
+  over_then : (u : List ℕ) → over (over s at t) (at + length t) u ≡ over s at (t ++ u)
   unfolding over
-  over-then u =
+  over_then u =
       let h : List ℕ = take at s ++ t in
       let r : List ℕ = drop (at + length t) s in
       let e : length h ≡ at + length t = head-length in
@@ -52,9 +52,9 @@ wrote_one s at x l = record {
 }
 
 -- a text copied whole
-pub wrote-copied : (s t : List ℕ) (at i : ℕ) → at + length t ≤ length s → i ≡ length t → Wrote s at t (paste s at t i) (at + i)
+pub wrote_copied : (s t : List ℕ) (at i : ℕ) → at + length t ≤ length s → i ≡ length t → Wrote s at t (paste s at t i) (at + i)
 unfolding over
-wrote-copied s t at i l e = record {
+wrote_copied s t at i l e = record {
   room = l;
   left = ap (λ (k : ℕ). paste s at t k) e ∙ ap (λ (x : List ℕ). take at s ++ x ++ drop (at + length t) s) (take-length t);
   end = ap (λ (k : ℕ). at + k) e;
@@ -63,8 +63,8 @@ wrote-copied s t at i l e = record {
 -- ---- what was written, in general
 
 module _ {s t s' : List ℕ} {at r : ℕ} (a : Wrote s at t s' r) where
-  pub wrote-length : length s' ≡ length s
-  wrote-length = ap length a.left ∙ over-length s t at a.room
+  pub wrote_length : length s' ≡ length s
+  wrote_length = ap length a.left ∙ over-length s t at a.room
 
   -- the same text, by another name
   pub wrote_as : {u : List ℕ} → t ≡ u → Wrote s at u s' r
@@ -73,11 +73,11 @@ module _ {s t s' : List ℕ} {at r : ℕ} (a : Wrote s at t s' r) where
   -- another text after it
   pub wrote_then : {u s'' : List ℕ} {q : ℕ} → Wrote s' r u s'' q → Wrote s at (t ++ u) s'' q
   wrote_then {u} b = record {
-    room = omega (arith, a.room, a.end, b.room, wrote-length, length-append t u);
-    left = b.left ∙ ap₂ (λ (x : List ℕ) (k : ℕ). over x k u) a.left a.end ∙ over-then s t at a.room u;
+    room = omega (arith, a.room, a.end, b.room, wrote_length, length-append t u);
+    left = b.left ∙ ap₂ (λ (x : List ℕ) (k : ℕ). over x k u) a.left a.end ∙ over_then s t at a.room u;
     end = omega (arith, a.end, b.end, length-append t u);
   }
 
-pub wrote-first : {s t s' : List ℕ} {r : ℕ} → Wrote s 0 t s' r → s' ≡ t ++ drop r s
+pub wrote_first : {s t s' : List ℕ} {r : ℕ} → Wrote s 0 t s' r → s' ≡ t ++ drop r s
 unfolding over
-wrote-first {s} {t} {r = r} a = a.left ∙ ap (λ (k : ℕ). t ++ drop k s) (sym a.end)
+wrote_first {s} {t} {r = r} a = a.left ∙ ap (λ (k : ℕ). t ++ drop k s) (sym a.end)

@@ -19,22 +19,22 @@ use Rattle.lines.specs.Follow.{numbers, Lined, Labelled, corners}
 use Rattle.lines.specs.declared.Kind.{Kind}
 use Rattle.lines.specs.Kinds.{Follows}
 use Rattle.lines.specs.Printed.{Reported, Printed}
-use Rattle.lines.proofs.Text.{wrote_as, wrote-first}
-use Rattle.lines.proofs.Decimal.{length-four, named-short}
-use Rattle.lines.proofs.Said.{saying-short}
-use Rattle.lines.proofs.Body.{body, long, body-length, body-labels, Sixteen, body-numbers, mixed-low, circle-low, cut_low}
+use Rattle.lines.proofs.Text.{wrote_as, wrote_first}
+use Rattle.lines.proofs.Decimal.{length_four, named_short}
+use Rattle.lines.proofs.Said.{saying_short}
+use Rattle.lines.proofs.Body.{body, long, body-length, body-labels, Sixteen, body-numbers, mixed_low, circle_low, cut_low}
 
-pub heading-short : (n : ℕ) → n ≤ 14 → length (heading n) ≤ 26
+pub heading_short : (n : ℕ) → n ≤ 14 → length (heading n) ≤ 26
 unfolding ascii
-heading-short n l =
+heading_short n l =
     let w : List ℕ = ascii "result " ++ decimal n in
-    omega (arith, length-four w (ascii " ") (saying n) (ascii "\n"), named-short (ascii "result ") n (omega arith), saying-short n (omega arith))
+    omega (arith, length_four w (ascii " ") (saying n) (ascii "\n"), named_short (ascii "result ") n (omega arith), saying_short n (omega arith))
 
 -- ---- the results of each kind
 
-pub writes-events : {n : ℕ} → (n ≡ 12) ⊎ (n ≡ 14) → Sixteen n
-writes-events (inl e) = subst Sixteen (sym e) (refl, refl)
-writes-events (inr e) = subst Sixteen (sym e) (refl, refl)
+pub writes_events : {n : ℕ} → (n ≡ 12) ⊎ (n ≡ 14) → Sixteen n
+writes_events (inl e) = subst Sixteen (sym e) (refl, refl)
+writes_events (inr e) = subst Sixteen (sym e) (refl, refl)
 
 pub writes-arrows : {n : ℕ} → n ≡ 13 → Sixteen n
 writes-arrows e = subst Sixteen (sym e) (refl, refl)
@@ -46,42 +46,42 @@ follows k j n e f = subst (λ (i : Kind). Follows i n) e f
 -- ---- a listing is its first line and the lines of its kind, from the body of the report
 
 module _ (g : Drawing) (n : ℕ) (b l : List ℕ) (e : b ≡ report n l) where
-  at-number : (k : ℕ) (f : List ℕ → List ℕ) (t : List ℕ) → t ≡ l → n ≡ k → heading k ++ f l ≡ listing g k l → heading n ++ f t ≡ listing g n l
-  at-number k f t same is h = ap (λ (x : List ℕ). heading n ++ f x) same ∙ subst (λ (i : ℕ). heading i ++ f l ≡ listing g i l) (sym is) h
+  at_number : (k : ℕ) (f : List ℕ → List ℕ) (t : List ℕ) → t ≡ l → n ≡ k → heading k ++ f l ≡ listing g k l → heading n ++ f t ≡ listing g n l
+  at_number k f t same is h = ap (λ (x : List ℕ). heading n ++ f x) same ∙ subst (λ (i : ℕ). heading i ++ f l ≡ listing g i l) (sym is) h
 
   pub listing-corners : n ≡ 0 → heading n ++ corners g (body b) ≡ listing g n l
   unfolding listing
-  listing-corners is = at-number 0 (corners g) (body b) (body-labels n b l is e) is refl
+  listing-corners is = at_number 0 (corners g) (body b) (body-labels n b l is e) is refl
 
-  pub listing-events : (n ≡ 12) ⊎ (n ≡ 14) → heading n ++ each (line (ascii "event ")) (numbers (body b)) ≡ listing g n l
+  pub listing_events : (n ≡ 12) ⊎ (n ≡ 14) → heading n ++ each (line (ascii "event ")) (numbers (body b)) ≡ listing g n l
   unfolding listing
-  listing-events (inl is) = at-number 12 (each (line (ascii "event "))) (numbers (body b)) (body-numbers n b l (writes-events (inl is)) e) is refl
-  listing-events (inr is) = at-number 14 (each (line (ascii "event "))) (numbers (body b)) (body-numbers n b l (writes-events (inr is)) e) is refl
+  listing_events (inl is) = at_number 12 (each (line (ascii "event "))) (numbers (body b)) (body-numbers n b l (writes_events (inl is)) e) is refl
+  listing_events (inr is) = at_number 14 (each (line (ascii "event "))) (numbers (body b)) (body-numbers n b l (writes_events (inr is)) e) is refl
 
   pub listing-arrows : n ≡ 13 → heading n ++ each (line (ascii "arrow ")) (numbers (body b)) ≡ listing g n l
   unfolding listing
-  listing-arrows is = at-number 13 (each (line (ascii "arrow "))) (numbers (body b)) (body-numbers n b l (writes-arrows is) e) is refl
+  listing-arrows is = at_number 13 (each (line (ascii "arrow "))) (numbers (body b)) (body-numbers n b l (writes-arrows is) e) is refl
 
-pub listing-alone : (g : Drawing) (n : ℕ) (l : List ℕ) → (1 ≤ n) × (n ≤ 11) → heading n ≡ listing g n l
+pub listing_alone : (g : Drawing) (n : ℕ) (l : List ℕ) → (1 ≤ n) × (n ≤ 11) → heading n ≡ listing g n l
 unfolding listing
-listing-alone g n l h =
+listing_alone g n l h =
     sym (append-nil (heading n))
     ∙ simp (ne_eqb n 0 (λ e. omega arith), ne_eqb n 12 (λ e. omega arith), ne_eqb n 13 (λ e. omega arith), ne_eqb n 14 (λ e. omega arith))
 
 -- ---- what the parts ask
 
 module _ (s : List ℕ) (n : ℕ) (b : List ℕ) (R : Reported s n b) where
-  pub long-labels : n ≡ 0 → 8 ≤ length b
-  long-labels e = long n b R.entries (ap writes e) R.stretch
+  pub long_labels : n ≡ 0 → 8 ≤ length b
+  long_labels e = long n b R.entries (ap writes e) R.stretch
 
-  pub long-numbers : Sixteen n → 8 ≤ length b
-  long-numbers h = long n b R.entries h.0 R.stretch
+  pub long_numbers : Sixteen n → 8 ≤ length b
+  long_numbers h = long n b R.entries h.0 R.stretch
 
   shaped : T (writes n) → ((drawing s).events ≤ 1024) × (darts (drawing s) ≤ 6144)
   shaped t = let S = R.shape t in (S.events.1, S.few)
 
-  pub labels-asked : n ≡ 0 → (o : List ℕ) (at : ℕ) → at + 23552 ≤ length o → Labelled o at s (body b)
-  labels-asked e o at room =
+  pub labels_asked : n ≡ 0 → (o : List ℕ) (at : ℕ) → at + 23552 ≤ length o → Labelled o at s (body b)
+  labels_asked e o at room =
       let t : T (writes n) = subst (λ (k : ℕ). T (writes k)) (sym e) tt in
       let L : Labelling (drawing s) R.entries = subst (λ (k : ℕ). Entries (drawing s) k R.entries) e R.allowed in
       let few = (shaped t).0 in
@@ -92,8 +92,8 @@ module _ (s : List ℕ) (n : ℕ) (b : List ℕ) (R : Reported s n b) where
         room = omega (arith, few);
       }
 
-  numbers-asked : Sixteen n → All (λ x. x < 10000) R.entries → (o : List ℕ) (at : ℕ) (w : List ℕ) → length w ≤ 6 → at + 33792 ≤ length o → Lined o at w (body b)
-  numbers-asked h low o at w short room = record {
+  numbers_asked : Sixteen n → All (λ x. x < 10000) R.entries → (o : List ℕ) (at : ℕ) (w : List ℕ) → length w ≤ 6 → at + 33792 ≤ length o → Lined o at w (body b)
+  numbers_asked h low o at w short room = record {
     room = omega (arith, body-length b, R.room);
     word = short;
     low = subst (All (λ x. x < 10000)) (sym (body-numbers n b R.entries h R.stretch)) low;
@@ -104,19 +104,19 @@ module _ (s : List ℕ) (n : ℕ) (b : List ℕ) (R : Reported s n b) where
         → ((drawing s).events ≤ 1024 → darts (drawing s) ≤ 6144 → Entries (drawing s) k R.entries → All (λ x. x < 10000) R.entries) → Lined o at w (body b)
     asked k e t h low =
         let few = shaped (subst (λ (i : ℕ). T (writes i)) (sym e) t) in
-        numbers-asked (subst Sixteen (sym e) h) (low few.0 few.1 (subst (λ (i : ℕ). Entries (drawing s) i R.entries) e R.allowed)) o at w short room
+        numbers_asked (subst Sixteen (sym e) h) (low few.0 few.1 (subst (λ (i : ℕ). Entries (drawing s) i R.entries) e R.allowed)) o at w short room
 
-    pub events-asked : (n ≡ 12) ⊎ (n ≡ 14) → Lined o at w (body b)
-    events-asked (inl e) = asked 12 e tt (refl, refl) (λ f h. mixed-low (drawing s) f h R.entries)
-    events-asked (inr e) = asked 14 e tt (refl, refl) (λ f h. cut_low (drawing s) f h R.entries)
+    pub events_asked : (n ≡ 12) ⊎ (n ≡ 14) → Lined o at w (body b)
+    events_asked (inl e) = asked 12 e tt (refl, refl) (λ f h. mixed_low (drawing s) f h R.entries)
+    events_asked (inr e) = asked 14 e tt (refl, refl) (λ f h. cut_low (drawing s) f h R.entries)
 
-    pub arrows-asked : n ≡ 13 → Lined o at w (body b)
-    arrows-asked e = asked 13 e tt (refl, refl) (λ f h. circle-low (drawing s) f h R.entries)
+    pub arrows_asked : n ≡ 13 → Lined o at w (body b)
+    arrows_asked e = asked 13 e tt (refl, refl) (λ f h. circle_low (drawing s) f h R.entries)
 
 -- ---- what is printed
 
 pub print : {s : List ℕ} {n : ℕ} {b o o' t : List ℕ} {r : ℕ} → Wrote o 0 t o' r → ((l : List ℕ) → b ≡ report n l → t ≡ listing (drawing s) n l) → Printed s n b o o' r
 print w h = record {
-  text = λ l e a. wrote-first (wrote_as w (h l e));
+  text = λ l e a. wrote_first (wrote_as w (h l e));
   size = λ l e a. omega (arith, (wrote_as w (h l e)).end);
 }

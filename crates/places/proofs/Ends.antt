@@ -6,16 +6,16 @@ use Prim.Native.Nat.{ℕ, ◌≤◌, ◌<◌}
 use native.Mathlib.Omega.{arith}
 use lib.ListN.{length, get_or, replicate, length-replicate, get_or-replicate}
 use Rattle.finite.specs.Sums.{bit}
-use Rattle.finite.proofs.Sum.{sum-term, sum_mono, sum-const}
+use Rattle.finite.proofs.Sum.{sum_term, sum_mono, sum_const}
 use Rattle.drawing.specs.Drawing.{faces, pole}
-use Rattle.finite.proofs.Extra.{bit-yes}
+use Rattle.finite.proofs.Extra.{bit_yes}
 use Rattle.rules.specs.Chart.{drawing}
 use Rattle.words.specs.Tables.{nth}
 use Rattle.chart.specs.Shape.{Shape}
 use Rattle.placing.specs.Board.{hold}
 use Rattle.placing.specs.Search.{Sofar}
-use Rattle.placing.proofs.Settles.{sofar-own, all-as, crowd-as}
-use Rattle.placing.proofs.Labelled.{is-labelling}
+use Rattle.placing.proofs.Settles.{sofar_own, all_as, crowd_as}
+use Rattle.placing.proofs.Labelled.{is_labelling}
 use Rattle.placing.proofs.Writes.{is_cut}
 use Rattle.places.specs.Found.{Ready, Found}
 use Rattle.search.specs.Steps.{Reads}
@@ -37,10 +37,10 @@ module _ {s : List ℕ} {n : ℕ} {here poles first spare : List ℕ} (Z : Shape
   few f l =
       omega (
         arith,
-        sum-term (faces (drawing s)) (nth spare) f l,
+        sum_term (faces (drawing s)) (nth spare) f l,
         Y.total,
         sum_mono (drawing s).events (nth poles) (λ v. 1) bits,
-        sum-const (drawing s).events 1,
+        sum_const (drawing s).events 1,
         Z.events.1,
       )
 
@@ -63,25 +63,25 @@ module _ {s : List ℕ} {n : ℕ} {here poles first spare : List ℕ} (Z : Shape
       firsts = Y.firsts;
       keys = Y.few;
       few = λ f l. omega (arith, S.total f l, few f l);
-      sofar = sofar-own S;
+      sofar = sofar_own S;
     }
 
     module _ {L' list : List ℕ} {r : ℕ} (R : Rest (drawing s) here poles (hold (drawing s) here L sp) L' list r) (labels₀ : List ℕ) where
-      pub found-labels : {labels : List ℕ} → 65535 ≤ r → Labels (drawing s) L' labels → Found (drawing s) labels₀ labels list 65535
-      found-labels {labels} l W = record {
-        yes = λ q. is-labelling reads.board (all-as (R.all l) S.total) Y.poled.each Y.outer Y.roomed.each Y.total labels W.size W.each;
+      pub found_labels : {labels : List ℕ} → 65535 ≤ r → Labels (drawing s) L' labels → Found (drawing s) labels₀ labels list 65535
+      found_labels {labels} l W = record {
+        yes = λ q. is_labelling reads.board (all_as (R.all l) S.total) Y.poled.each Y.outer Y.roomed.each Y.total labels W.size W.each;
         no = λ q. absurd (omega arith);
       }
 
-      pub found-cut : r < 65535 → length list ≡ (drawing s).events → Found (drawing s) labels₀ labels₀ list r
-      found-cut l e =
+      pub found_cut : r < 65535 → length list ≡ (drawing s).events → Found (drawing s) labels₀ labels₀ list r
+      found_cut l e =
           let C = R.crowd l in
-          let most : r ≤ (drawing s).events = omega (arith, C.listed.count, sum_mono (drawing s).events C.set (λ v. 1) C.bits, sum-const (drawing s).events 1) in
+          let most : r ≤ (drawing s).events = omega (arith, C.listed.count, sum_mono (drawing s).events C.set (λ v. 1) C.bits, sum_const (drawing s).events 1) in
           record {
             yes = λ q. absurd (omega arith);
             no = λ q. (
               omega arith,
-              is_cut reads.board (crowd-as C.crowd S.total) C.listed (omega arith) Y.roomed.each (λ v h m. (bit-yes (pole (drawing s) v)).1 (omega (arith, C.of_poles v h m, Y.poled.each v h))),
+              is_cut reads.board (crowd_as C.crowd S.total) C.listed (omega arith) Y.roomed.each (λ v h m. (bit_yes (pole (drawing s) v)).1 (omega (arith, C.of_poles v h m, Y.poled.each v h))),
               refl,
             );
           }

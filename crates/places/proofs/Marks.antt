@@ -7,7 +7,7 @@ use native.Mathlib.Decide.{ℕ_discrete}
 use native.Mathlib.Omega.{arith}
 use lib.ListN.{set, length-set}
 use lib.Seq.{get_or-set_same, get_or-set_other}
-use Rattle.finite.proofs.Sum.{δ-eq, δ-other}
+use Rattle.finite.proofs.Sum.{δ-eq, δ_other}
 use Rattle.drawing.specs.Drawing.{Drawing, darts, event, plain}
 use Rattle.drawing.specs.Conditions.{EventsKnown}
 use Rattle.words.specs.Tables.{nth}
@@ -15,19 +15,19 @@ use Rattle.placing.specs.Board.{Own}
 use Rattle.places.specs.Steps.{Plains, Raised, Labels}
 
 module _ (g : Drawing) (L : List ℕ) where
-  pub raised-start : (out : List ℕ) → Plains g out → Raised g L out 0
-  raised-start out P = record { size = P.size; done = λ c l h. absurd (omega arith); left = λ c l h. P.each c l }
+  pub raised_start : (out : List ℕ) → Plains g out → Raised g L out 0
+  raised_start out P = record { size = P.size; done = λ c l h. absurd (omega arith); left = λ c l h. P.each c l }
 
-  pub raised-done : (out : List ℕ) (v : ℕ) → EventsKnown g → g.events ≤ v → Raised g L out v → Labels g L out
-  raised-done out v E all M = record { size = M.size; each = λ c l. M.done c l (omega (arith, E c l)) }
+  pub raised_done : (out : List ℕ) (v : ℕ) → EventsKnown g → g.events ≤ v → Raised g L out v → Labels g L out
+  raised_done out v E all M = record { size = M.size; each = λ c l. M.done c l (omega (arith, E c l)) }
 
   module _ (own : Own g L) (out : List ℕ) (v : ℕ) (M : Raised g L out v) (l : v < g.events) (c : ℕ) (got : c ≡ nth L v) where
     -- the event has no place: none of its corners is one
-    pub raised-none : darts g ≤ c → Raised g L out (v + 1)
-    raised-none far = record {
+    pub raised_none : darts g ≤ c → Raised g L out (v + 1)
+    raised_none far = record {
       size = M.size;
       done = λ d h k. elim (ℕ_discrete (event g d) v) [
-        | yes e ↦ omega (arith, M.left d h (omega arith), δ-other (nth L (event g d)) d (λ q. omega (arith, q, got, ap (nth L) e)))
+        | yes e ↦ omega (arith, M.left d h (omega arith), δ_other (nth L (event g d)) d (λ q. omega (arith, q, got, ap (nth L) e)))
         | no e ↦ M.done d h (omega arith)
       ];
       left = λ d h k. M.left d h (omega arith);
@@ -40,17 +40,17 @@ module _ (g : Drawing) (L : List ℕ) where
         | inr h ↦ ap (event g) got ∙ h.1
       ]
 
-      pub was-plain : nth out c ≡ plain g c
-      was-plain = M.left c near (omega (arith, there))
+      pub was_plain : nth out c ≡ plain g c
+      was_plain = M.left c near (omega (arith, there))
 
-      pub raised-place : (out' : List ℕ) → out' ≡ set out c (2 + nth out c) → Raised g L out' (v + 1)
-      raised-place out' e = rw e record {
+      pub raised_place : (out' : List ℕ) → out' ≡ set out c (2 + nth out c) → Raised g L out' (v + 1)
+      raised_place out' e = rw e record {
         size = length-set out c (2 + nth out c) ∙ M.size;
         done = λ d h k. elim (ℕ_discrete d c) [
           | yes q ↦ rw q (omega (
             arith,
             get_or-set_same out c (2 + nth out c) 0 (omega (arith, M.size)),
-            was-plain,
+            was_plain,
             δ-eq (nth L (event g c)) c (ap (nth L) there ∙ sym got),
           ))
           | no q ↦ elim (ℕ_discrete (event g d) v) [
@@ -58,7 +58,7 @@ module _ (g : Drawing) (L : List ℕ) where
               arith,
               get_or-set_other out c d (2 + nth out c) 0 q,
               M.left d h (omega arith),
-              δ-other (nth L (event g d)) d (λ z. q (sym z ∙ ap (nth L) r ∙ sym got)),
+              δ_other (nth L (event g d)) d (λ z. q (sym z ∙ ap (nth L) r ∙ sym got)),
             )
             | no r ↦ get_or-set_other out c d (2 + nth out c) 0 q ∙ M.done d h (omega arith)
           ]

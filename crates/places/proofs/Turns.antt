@@ -9,14 +9,14 @@ use native.Mathlib.Decide.{ℕ_discrete}
 use native.Mathlib.Omega.{arith}
 use lib.ListN.{length}
 use Rattle.drawing.specs.Drawing.{Drawing, darts, event, faces}
-use Rattle.finite.proofs.Sum.{sum_mono, sum-const}
+use Rattle.finite.proofs.Sum.{sum_mono, sum_const}
 use Rattle.rules.specs.Chart.{drawing}
 use Rattle.words.specs.Tables.{nth}
 use Rattle.chart.specs.Held.{Firsts}
-use Rattle.chart.proofs.Keys.{faces-few}
+use Rattle.chart.proofs.Keys.{faces_few}
 use Rattle.placing.specs.Board.{hold}
 use Rattle.placing.specs.Search.{member, Sofar, Listing}
-use Rattle.placing.proofs.Settles.{settle-start, settle-done, settle-skip, settle-kept, settle-more, settle-add, settle-poles, settle-crowd}
+use Rattle.placing.proofs.Settles.{settle_start, settle_done, settle_skip, settle_kept, settle_more, settle_add, settle_poles, settle_crowd}
 use Rattle.search.specs.Steps.{Reads, Fresh, Near, Sits}
 use Rattle.places.specs.Steps.{Turn, Seated, Upto, Begin, Late, Housed, Left, Settled, Rest}
 
@@ -36,13 +36,13 @@ going_start {poles = poles} {L = L} {sp} B = record {
   poled = B.poled;
   firsts = B.firsts;
   few = B.few;
-  sofar = settle-start (nth poles) B.reads.board L sp B.events B.keys B.nobody;
+  sofar = settle_start (nth poles) B.reads.board L sp B.events B.keys B.nobody;
   later = λ v l k. B.nobody v l;
 }
 
 -- a corner near whose face has room is a place for the event
-pub near-sits : {s : List ℕ} {n : ℕ} {here poles firsts L sp : List ℕ} {e first c : ℕ} → Turn s n here poles firsts L sp e → first ≡ nth firsts e → Near (drawing s) here sp first c → c < 65535 → Sits s n here L sp e c
-near-sits {s} {e = e} T q N l = record {
+pub near_sits : {s : List ℕ} {n : ℕ} {here poles firsts L sp : List ℕ} {e first c : ℕ} → Turn s n here poles firsts L sp e → first ≡ nth firsts e → Near (drawing s) here sp first c → c < 65535 → Sits s n here L sp e c
+near_sits {s} {e = e} T q N l = record {
   reads = T.reads;
   valid = T.valid;
   few = T.few;
@@ -56,8 +56,8 @@ module _ {s : List ℕ} {n : ℕ} {here poles first room L sp : List ℕ} {w e :
   inside : e < (drawing s).events
   inside = omega (arith, G.poled)
 
-  pub going-turn : Turn s n here poles first L sp e
-  going-turn = record {
+  pub going_turn : Turn s n here poles first L sp e
+  going_turn = record {
     reads = G.reads;
     valid = G.sofar.valid;
     few = λ f k. omega (arith, G.sofar.total f k, G.few f k);
@@ -67,14 +67,14 @@ module _ {s : List ℕ} {n : ℕ} {here poles first room L sp : List ℕ} {w e :
     free = omega (arith, G.later e inside (omega arith), G.reads.shape.darts);
   }
 
-  pub turn-few : e < 65535
-  turn-few = omega (arith, inside, G.reads.shape.events.1)
+  pub turn_few : e < 65535
+  turn_few = omega (arith, inside, G.reads.shape.events.1)
 
   module _ {L' sp' : List ℕ} {r : ℕ} (A : Seated (drawing s) here poles L sp e L' sp' r) where
     -- who was placed still is, and nobody further on
     kept : Sofar (drawing s) here (nth poles) (nth room) w L' sp'
     kept = elim (ℕ_discrete r 1) [
-      | yes q ↦ let p = A.placed q in settle-more G.sofar p.0 p.1
+      | yes q ↦ let p = A.placed q in settle_more G.sofar p.0 p.1
       | no q ↦ elim (ℕ_discrete r 0) [
         | yes z ↦ let p = A.left z in rw (p.0, p.1) G.sofar
         | no z ↦ let p = A.skip (omega (arith, A.few)) in rw (p.1, p.2) G.sofar
@@ -97,8 +97,8 @@ module _ {s : List ℕ} {n : ℕ} {here poles first room L sp : List ℕ} {w e :
     further q d =
         let S : Sofar (drawing s) here (nth poles) (nth room) e L' sp' = subst (λ (x : ℕ). Sofar (drawing s) here (nth poles) (nth room) x L' sp') q kept in
         elim (ℕ_discrete r 1) [
-          | yes y ↦ settle-kept S inside (A.placed y).1.placed
-          | no y ↦ settle-skip S inside (A.skip (omega (arith, A.few))).0
+          | yes y ↦ settle_kept S inside (A.placed y).1.placed
+          | no y ↦ settle_skip S inside (A.skip (omega (arith, A.few))).0
         ]
 
     pub going_step : {x : ℕ} → Upto w e r x → Going s n here poles first room L' sp' x (e + 1)
@@ -121,16 +121,16 @@ pub record Searching (s : List ℕ) (n : ℕ) (here poles first : List ℕ) (roo
   pub sofar : Sofar (drawing s) here (nth poles) room e L sp
   pub fresh : Fresh (faces (drawing s)) rank via
 
-pub searching-start : {s : List ℕ} {n : ℕ} {here poles first L sp rank via : List ℕ} {w : ℕ} → Left s n here poles first L sp w → Fresh (faces (drawing s)) rank via
+pub searching_start : {s : List ℕ} {n : ℕ} {here poles first L sp rank via : List ℕ} {w : ℕ} → Left s n here poles first L sp w → Fresh (faces (drawing s)) rank via
     → Searching s n here poles first (hold (drawing s) here L sp) L sp rank via w
-searching-start F R = record { reads = F.reads; poled = F.poled; firsts = F.firsts; few = F.few; sofar = F.sofar; fresh = R }
+searching_start F R = record { reads = F.reads; poled = F.poled; firsts = F.firsts; few = F.few; sofar = F.sofar; fresh = R }
 
 module _ {s : List ℕ} {n : ℕ} {here poles first : List ℕ} {room : ℕ → ℕ} {L sp rank via : List ℕ} {e : ℕ} (G : Searching s n here poles first room L sp rank via e) where
-  pub searching-done : length poles ≤ e → Settled (drawing s) here poles room L rank 65535
-  searching-done l = record {
+  pub searching_done : length poles ≤ e → Settled (drawing s) here poles room L rank 65535
+  searching_done l = record {
     events = G.sofar.valid.events;
     ranks = G.fresh.ranks;
-    all = λ q. settle-done G.sofar (omega (arith, G.poled));
+    all = λ q. settle_done G.sofar (omega (arith, G.poled));
     inside = λ q. absurd (omega arith);
     crowd = λ q. absurd (omega arith);
     of_poles = λ q. absurd (omega arith);
@@ -140,8 +140,8 @@ module _ {s : List ℕ} {n : ℕ} {here poles first : List ℕ} {room : ℕ → 
     in-turn : e < (drawing s).events
     in-turn = omega (arith, G.poled)
 
-    pub searching-turn : Late s n here poles first L sp rank via e
-    searching-turn = record {
+    pub searching_turn : Late s n here poles first L sp rank via e
+    searching_turn = record {
       reads = G.reads;
       valid = G.sofar.valid;
       few = λ f k. omega (arith, G.sofar.total f k, G.few f k);
@@ -155,41 +155,41 @@ module _ {s : List ℕ} {n : ℕ} {here poles first : List ℕ} {room : ℕ → 
       with_all : Sofar (drawing s) here (nth poles) room (e + 1) L' sp' → Fresh (faces (drawing s)) rank' via' → Searching s n here poles first room L' sp' rank' via' (e + 1)
       with_all S F = record { reads = G.reads; poled = G.poled; firsts = G.firsts; few = G.few; sofar = S; fresh = F }
 
-      pub searching-step : r ≢ 0 → Searching s n here poles first room L' sp' rank' via' (e + 1)
-      searching-step d = elim (ℕ_discrete r 1) [
-        | yes q ↦ let p = A.placed q in with_all (settle-add G.sofar in-turn p.0 p.1) p.2
+      pub searching_step : r ≢ 0 → Searching s n here poles first room L' sp' rank' via' (e + 1)
+      searching_step d = elim (ℕ_discrete r 1) [
+        | yes q ↦ let p = A.placed q in with_all (settle_add G.sofar in-turn p.0 p.1) p.2
         | no q ↦
             let p = A.skip (omega (arith, A.few)) in
-            with_all (rw (p.1, p.2) (⊎_elim (λ a. settle-skip G.sofar in-turn a) (λ a. settle-kept G.sofar in-turn a) p.0)) p.3
+            with_all (rw (p.1, p.2) (⊎_elim (λ a. settle_skip G.sofar in-turn a) (λ a. settle_kept G.sofar in-turn a) p.0)) p.3
       ]
 
-      pub searching-stuck : r ≡ 0 → Settled (drawing s) here poles room L' rank' e
-      searching-stuck q =
+      pub searching_stuck : r ≡ 0 → Settled (drawing s) here poles room L' rank' e
+      searching_stuck q =
           let p = A.stuck q in
           rw p.1 (record {
             events = G.sofar.valid.events;
             ranks = A.ranks;
             all = λ z. absurd (omega (arith, in-turn, G.reads.shape.events.1));
             inside = λ z. in-turn;
-            crowd = λ z. settle-crowd G.sofar p.3;
-            of_poles = λ z v k m. settle-poles G.sofar p.0 rank' G.reads.board (omega (arith, A.ranks, faces-few (drawing s))) v k m;
+            crowd = λ z. settle_crowd G.sofar p.3;
+            of_poles = λ z v k m. settle_poles G.sofar p.0 rank' G.reads.board (omega (arith, A.ranks, faces_few (drawing s))) v k m;
           })
 
 -- ---- both ends
 
 module _ {s : List ℕ} {n : ℕ} {here poles first L sp : List ℕ} {w : ℕ} (F : Left s n here poles first L sp w) where
   -- nobody is left
-  pub rest-none : (list : List ℕ) → length poles ≤ w → Rest (drawing s) here poles (hold (drawing s) here L sp) L list 65535
-  rest-none list l = record { events = F.sofar.valid.events; all = λ q. settle-done F.sofar (omega (arith, F.poled)); crowd = λ q. absurd (omega arith) }
+  pub rest_none : (list : List ℕ) → length poles ≤ w → Rest (drawing s) here poles (hold (drawing s) here L sp) L list 65535
+  rest_none list l = record { events = F.sofar.valid.events; all = λ q. settle_done F.sofar (omega (arith, F.poled)); crowd = λ q. absurd (omega arith) }
 
 module _ {g : Drawing} {here poles : List ℕ} {room : ℕ → ℕ} {L rank : List ℕ} {r : ℕ} (S : Settled g here poles room L rank r) where
   pub rest_all : (list : List ℕ) → 65535 ≤ r → Rest g here poles room L list 65535
   rest_all list l = record { events = S.events; all = λ q. S.all l; crowd = λ q. absurd (omega arith) }
 
-  pub rest-crowd : {list : List ℕ} {k : ℕ} → r < 65535 → g.events ≤ 1024 → Listing (length L) (member here L rank r) list k → Rest g here poles room L list k
-  rest-crowd {list} {k} l few W =
+  pub rest_crowd : {list : List ℕ} {k : ℕ} → r < 65535 → g.events ≤ 1024 → Listing (length L) (member here L rank r) list k → Rest g here poles room L list k
+  rest_crowd {list} {k} l few W =
       let W' : Listing g.events (member here L rank r) list k = rw S.events at W in
-      let most : k ≤ g.events = omega (arith, W'.count, sum_mono g.events (member here L rank r) (λ v. 1) (λ v h. omega arith), sum-const g.events 1) in
+      let most : k ≤ g.events = omega (arith, W'.count, sum_mono g.events (member here L rank r) (λ v. 1) (λ v h. omega arith), sum_const g.events 1) in
       record {
         events = S.events;
         all = λ q. absurd (omega arith);

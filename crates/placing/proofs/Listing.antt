@@ -8,27 +8,27 @@ use native.Mathlib.Omega.{arith}
 use lib.ListN.{length, set, length-set}
 use lib.Seq.{get_or-set_same, get_or-set_other}
 use Rattle.finite.specs.Steps.{Into, Inj}
-use Rattle.finite.proofs.Perm.{inj-le, onto}
+use Rattle.finite.proofs.Perm.{inj_le, onto}
 use Rattle.words.specs.Tables.{nth}
 use Rattle.placing.specs.Search.{Seen, Blank, Held, Grown, Listed, Adds, Reached}
 
 -- ---- growing
 
-pub grown-none : {here rank via : List ℕ} {t : ℕ} (P : ℕ → Type 0) → Held here rank via t → Grown here P rank via t rank via t
-grown-none P H = record { held = H; size = refl; longer = omega arith; kept = λ f s. refl; same = λ i l. refl; new = λ i a b. absurd (omega arith) }
+pub grown_none : {here rank via : List ℕ} {t : ℕ} (P : ℕ → Type 0) → Held here rank via t → Grown here P rank via t rank via t
+grown_none P H = record { held = H; size = refl; longer = omega arith; kept = λ f s. refl; same = λ i l. refl; new = λ i a b. absurd (omega arith) }
 
-pub seen-kept : {here : List ℕ} {P : ℕ → Type 0} {rank via : List ℕ} {t : ℕ} {rank' via' : List ℕ} {t' : ℕ}
+pub seen_kept : {here : List ℕ} {P : ℕ → Type 0} {rank via : List ℕ} {t : ℕ} {rank' via' : List ℕ} {t' : ℕ}
     → Grown here P rank via t rank' via' t' → (f : ℕ) → Seen rank f → Seen rank' f
-seen-kept G f s = omega (arith, G.kept f s)
+seen_kept G f s = omega (arith, G.kept f s)
 
-pub grown-more : {here : List ℕ} {P Q : ℕ → Type 0} {rank via : List ℕ} {t : ℕ} {rank' via' : List ℕ} {t' : ℕ} {rank'' via'' : List ℕ} {t'' : ℕ}
+pub grown_more : {here : List ℕ} {P Q : ℕ → Type 0} {rank via : List ℕ} {t : ℕ} {rank' via' : List ℕ} {t' : ℕ} {rank'' via'' : List ℕ} {t'' : ℕ}
     → Grown here P rank via t rank' via' t' → Grown here Q rank' via' t' rank'' via'' t'' → ((d : ℕ) → d < length here → Q d → P d)
     → Grown here P rank via t rank'' via'' t''
-grown-more {P = P} {t' = t'} {via'' = via''} G K sub = record {
+grown_more {P = P} {t' = t'} {via'' = via''} G K sub = record {
   held = K.held;
   size = K.size ∙ G.size;
   longer = omega (arith, G.longer, K.longer);
-  kept = λ f s. K.kept f (seen-kept G f s) ∙ G.kept f s;
+  kept = λ f s. K.kept f (seen_kept G f s) ∙ G.kept f s;
   same = λ i l. K.same i (omega (arith, G.longer)) ∙ G.same i l;
   new = λ i a b. elim (dec_lt i t') [
     | yes q ↦ subst P (sym (K.same i q)) (G.new i a q)
@@ -36,9 +36,9 @@ grown-more {P = P} {t' = t'} {via'' = via''} G K sub = record {
   ];
 }
 
-pub grown-as : {here : List ℕ} {P Q : ℕ → Type 0} {rank via : List ℕ} {t : ℕ} {rank' via' : List ℕ} {t' : ℕ}
+pub grown_as : {here : List ℕ} {P Q : ℕ → Type 0} {rank via : List ℕ} {t : ℕ} {rank' via' : List ℕ} {t' : ℕ}
     → Grown here P rank via t rank' via' t' → ((d : ℕ) → d < length here → P d → Q d) → Grown here Q rank via t rank' via' t'
-grown-as {via' = via'} G sub = record {
+grown_as {via' = via'} G sub = record {
   held = G.held;
   size = G.size;
   longer = G.longer;
@@ -65,18 +65,18 @@ module _ {here rank via : List ℕ} {t : ℕ} (H : Held here rank via t) where
   inside : Into t (length rank) (λ i. nth here (nth via i))
   inside i a = H.into (nth via i) (H.entry i a).0
 
-  pub ends-few : t ≤ length rank
-  ends-few = inj-le t (length rank) (λ i. nth here (nth via i)) apart inside
+  pub ends_few : t ≤ length rank
+  ends_few = inj_le t (length rank) (λ i. nth here (nth via i)) apart inside
 
   module _ (c : ℕ) (l : c < length here) where
-    pub listed-none : Seen rank (nth here c) → Listed here c rank via t rank via t
-    listed-none s = record { grown = grown-none (λ d. d ≡ c) H; seen = s }
+    pub listed_none : Seen rank (nth here c) → Listed here c rank via t rank via t
+    listed_none s = record { grown = grown_none (λ d. d ≡ c) H; seen = s }
 
     module _ (new : nth rank (nth here c) < 1) where
       -- a face that is not listed leaves room in the list
-      pub end-in : t < length rank
-      end-in =
-          let le : t ≤ length rank = ends-few in
+      pub end_in : t < length rank
+      end_in =
+          let le : t ≤ length rank = ends_few in
           elim (ℕ_discrete t (length rank)) [
             | yes e ↦
                 let o = onto (length rank) (λ i. nth here (nth via i)) (λ i j a b. apart i j (omega arith) (omega arith)) (λ i a. inside i (omega arith)) (nth here c) (H.into c l) in
@@ -91,8 +91,8 @@ module _ {here rank via : List ℕ} {t : ℕ} (H : Held here rank via t) where
       other : (f : ℕ) → f ≢ nth here c → nth (set rank (nth here c) (t + 1)) f ≡ nth rank f
       other f q = get_or-set_other rank (nth here c) f (t + 1) 0 q
 
-      at-t : nth (set via t c) t ≡ c
-      at-t = get_or-set_same via t c 0 (omega (arith, H.vias, end-in))
+      at_t : nth (set via t c) t ≡ c
+      at_t = get_or-set_same via t c 0 (omega (arith, H.vias, end_in))
 
       before : (i : ℕ) → i < t → nth (set via t c) i ≡ nth via i
       before i a = get_or-set_other via t i c 0 (omega arith)
@@ -108,7 +108,7 @@ module _ {here rank via : List ℕ} {t : ℕ} (H : Held here rank via t) where
             ranks = omega (arith, length-set rank (nth here c) (t + 1), H.ranks);
             vias = length-set via t c ∙ H.vias ∙ sym (length-set rank (nth here c) (t + 1));
             entry = λ i a. elim (ℕ_discrete i t) [
-              | yes e ↦ rw (e, at-t) (l, at_f)
+              | yes e ↦ rw (e, at_t) (l, at_f)
               | no e ↦
                   let h = H.entry i (omega arith) in
                   rw (before i (omega arith)) (h.0, other (nth here (nth via i)) (seen_other (nth here (nth via i)) (omega (arith, h.1))) ∙ h.1)
@@ -117,7 +117,7 @@ module _ {here rank via : List ℕ} {t : ℕ} (H : Held here rank via t) where
               | yes e ↦
                   let r : nth (set rank (nth here c) (t + 1)) f ≡ t + 1 = ap (nth (set rank (nth here c) (t + 1))) e ∙ at_f in
                   let m : nth (set rank (nth here c) (t + 1)) f - 1 ≡ t = omega arith in
-                  (omega arith, rw (m, at-t) (sym e))
+                  (omega arith, rw (m, at_t) (sym e))
               | no e ↦
                   let r : nth (set rank (nth here c) (t + 1)) f ≡ nth rank f = other f e in
                   let h = H.found f (omega arith) in
@@ -129,38 +129,38 @@ module _ {here rank via : List ℕ} {t : ℕ} (H : Held here rank via t) where
           longer = omega arith;
           kept = λ f s. other f (seen_other f s);
           same = before;
-          new = λ i a b. let e : i ≡ t = omega arith in ap (nth (set via t c)) e ∙ at-t;
+          new = λ i a b. let e : i ≡ t = omega arith in ap (nth (set via t c)) e ∙ at_t;
         };
         seen = omega (arith, at_f);
       }
 
 -- the same, for the face f of the corner
 module _ {here rank via : List ℕ} {t : ℕ} (H : Held here rank via t) {c : ℕ} (l : c < length here) {f : ℕ} (e : f ≡ nth here c) where
-  pub list-in : f < length rank
-  list-in = omega (arith, H.into c l)
+  pub list_in : f < length rank
+  list_in = omega (arith, H.into c l)
 
-  pub list-room : nth rank f < 1 → t < length rank
-  list-room new = end-in H c l (rw e at new)
+  pub list_room : nth rank f < 1 → t < length rank
+  list_room new = end_in H c l (rw e at new)
 
-  pub list-new : nth rank f < 1 → {rank' via' : List ℕ} → rank' ≡ set rank f (t + 1) → via' ≡ set via t c → Listed here c rank via t rank' via' (t + 1)
-  list-new new r v = rw (r, v, e) (listed_more H c l (rw e at new))
+  pub list_new : nth rank f < 1 → {rank' via' : List ℕ} → rank' ≡ set rank f (t + 1) → via' ≡ set via t c → Listed here c rank via t rank' via' (t + 1)
+  list_new new r v = rw (r, v, e) (listed_more H c l (rw e at new))
 
 -- the same, with the room of the face looked at
 module _ {here rank via : List ℕ} (s : List ℕ) {t : ℕ} (H : Held here rank via t) {c : ℕ} (l : c < length here) {f : ℕ} (e : f ≡ nth here c) where
-  pub added-old : Seen rank f → t < 65536 → Adds here s c rank via t rank via t
-  added-old w few = ((λ q. record { grown = grown-none _ H; seen = rw e at w }), λ q. absurd (omega arith))
+  pub added_old : Seen rank f → t < 65536 → Adds here s c rank via t rank via t
+  added_old w few = ((λ q. record { grown = grown_none _ H; seen = rw e at w }), λ q. absurd (omega arith))
 
   module _ (new : nth rank f < 1) {rank' via' : List ℕ} (r : rank' ≡ set rank f (t + 1)) (v : via' ≡ set via t c) where
     pub added_full : nth s f < 1 → t + 1 < 65536 → Adds here s c rank via t rank' via' (t + 1)
     added_full z few =
-        let M : Listed here c rank via t rank' via' (t + 1) = list-new H l e new r v in (
-          (λ q. record { grown = grown-as M.grown (λ d a i. (i, omega (arith, ap (nth s) (ap (nth here) i ∙ sym e)))); seen = M.seen }),
+        let M : Listed here c rank via t rank' via' (t + 1) = list_new H l e new r v in (
+          (λ q. record { grown = grown_as M.grown (λ d a i. (i, omega (arith, ap (nth s) (ap (nth here) i ∙ sym e)))); seen = M.seen }),
           λ q. absurd (omega arith),
         )
 
-    pub added-room : {x : ℕ} → x ≡ 65537 + t → 1 ≤ nth s f → Adds here s c rank via t rank' via' x
-    added-room {x} i z =
-        let M : Listed here c rank via t rank' via' (t + 1) = list-new H l e new r v in
+    pub added_room : {x : ℕ} → x ≡ 65537 + t → 1 ≤ nth s f → Adds here s c rank via t rank' via' x
+    added_room {x} i z =
+        let M : Listed here c rank via t rank' via' (t + 1) = list_new H l e new r v in
         let end : x - 65536 ≡ t + 1 = omega arith in
         let last : x - 65537 ≡ t = omega arith in (
           (λ q. absurd (omega arith)),
@@ -172,9 +172,9 @@ module _ {here rank via : List ℕ} (s : List ℕ) {t : ℕ} (H : Held here rank
         )
 
 -- by other corners
-pub reached-as : {here s : List ℕ} {P Q : ℕ → Type 0} {rank via : List ℕ} {t : ℕ} {rank' via' : List ℕ} {r : ℕ}
+pub reached_as : {here s : List ℕ} {P Q : ℕ → Type 0} {rank via : List ℕ} {t : ℕ} {rank' via' : List ℕ} {r : ℕ}
     → Reached here s P rank via t rank' via' r → ((d : ℕ) → d < length here → P d → Q d) → Reached here s Q rank via t rank' via' r
-reached-as R sub = record { grown = grown-as R.grown sub; some = R.some; room = R.room }
+reached_as R sub = record { grown = grown_as R.grown sub; some = R.some; room = R.room }
 
 -- ---- taking back: the first i entries are cleared
 
@@ -184,8 +184,8 @@ pub record Clearing (here rank via : List ℕ) (t : ℕ) (rank' : List ℕ) (i :
   pub ranks : length rank' ≡ length rank
   pub left : (f : ℕ) → (nth rank' f ≡ 0) ⊎ ((i < nth rank' f) × (nth rank' f ≡ nth rank f))
 
-pub clear-start : {here rank via : List ℕ} {t : ℕ} → Held here rank via t → Clearing here rank via t rank 0
-clear-start {rank = rank} H = record {
+pub clear_start : {here rank via : List ℕ} {t : ℕ} → Held here rank via t → Clearing here rank via t rank 0
+clear_start {rank = rank} H = record {
   held = H;
   within = omega arith;
   ranks = refl;
@@ -193,14 +193,14 @@ clear-start {rank = rank} H = record {
 }
 
 module _ {here rank via : List ℕ} {t : ℕ} {rank' : List ℕ} {i : ℕ} (C : Clearing here rank via t rank' i) where
-  pub clear-via : i < t → i < length via
-  clear-via l = omega (arith, ends-few C.held, C.held.vias)
+  pub clear_via : i < t → i < length via
+  clear_via l = omega (arith, ends_few C.held, C.held.vias)
 
-  pub clear-corner : i < t → nth via i < length here
-  clear-corner l = (C.held.entry i l).0
+  pub clear_corner : i < t → nth via i < length here
+  clear_corner l = (C.held.entry i l).0
 
-  pub clear-face : i < t → nth here (nth via i) < length rank'
-  clear-face l = omega (arith, C.held.into (nth via i) (clear-corner l), C.ranks)
+  pub clear_face : i < t → nth here (nth via i) < length rank'
+  clear_face l = omega (arith, C.held.into (nth via i) (clear_corner l), C.ranks)
 
   pub clear_step : i < t → Clearing here rank via t (set rank' (nth here (nth via i)) 0) (i + 1)
   clear_step l = record {
@@ -208,7 +208,7 @@ module _ {here rank via : List ℕ} {t : ℕ} {rank' : List ℕ} {i : ℕ} (C : 
     within = omega arith;
     ranks = length-set rank' (nth here (nth via i)) 0 ∙ C.ranks;
     left = λ f. elim (ℕ_discrete f (nth here (nth via i))) [
-      | yes e ↦ inl (rw e (get_or-set_same rank' (nth here (nth via i)) 0 0 (clear-face l)))
+      | yes e ↦ inl (rw e (get_or-set_same rank' (nth here (nth via i)) 0 0 (clear_face l)))
       | no d ↦ rw (get_or-set_other rank' (nth here (nth via i)) f 0 0 d) (⊎_elim (λ z. inl z) (λ w. inr (far f d w.0 w.1, w.1)) (C.left f))
     ];
   }
@@ -222,8 +222,8 @@ module _ {here rank via : List ℕ} {t : ℕ} {rank' : List ℕ} {i : ℕ} (C : 
         | no q ↦ omega arith
       ]
 
-  pub clear-done : t ≤ i → Blank rank'
-  clear-done l f = ⊎_elim (λ z. z) (λ w. absurd (last w.0 w.1)) (C.left f)
+  pub clear_done : t ≤ i → Blank rank'
+  clear_done l f = ⊎_elim (λ z. z) (λ w. absurd (last w.0 w.1)) (C.left f)
     where
       last : i < nth rank' f → nth rank' f ≡ nth rank f → ⊥
       last a e = omega (arith, (C.held.found f (omega arith)).0)

@@ -8,14 +8,14 @@ use native.Mathlib.Omega.{arith}
 use lib.ListN.{length, set, length-set}
 use lib.Seq.{get_or-set_same, get_or-set_other}
 use Rattle.finite.specs.Sums.{δ}
-use Rattle.finite.proofs.Sum.{sum-change, δ-eq, δ-other, δ-same}
+use Rattle.finite.proofs.Sum.{sum_change, δ-eq, δ_other, δ_same}
 use Rattle.drawing.specs.Drawing.{Drawing, darts, event, faces}
 use Rattle.words.specs.Tables.{nth}
-use Rattle.chart.proofs.Keys.{faces-few}
+use Rattle.chart.proofs.Keys.{faces_few}
 use Rattle.placing.specs.Board.{Board, Own, face_of, load, hold, Valid}
 use Rattle.placing.specs.Search.{Seen, From, Way, Placed}
-use Rattle.placing.proofs.Boards.{face-of, face-none, here-into}
-use Rattle.placing.proofs.Listing.{ends-few}
+use Rattle.placing.proofs.Boards.{face_of_lem, face-none, here_into}
+use Rattle.placing.proofs.Listing.{ends_few}
 
 -- ---- what a store changes
 
@@ -23,19 +23,19 @@ pub load_set : (g : Drawing) (here L : List ℕ) (v c x : ℕ) → length L ≡ 
     → load g here L x + δ (face_of here c) x ≡ load g here (set L v c) x + δ (face_of here (nth L v)) x
 load_set g here L v c x e l =
     rw (get_or-set_same L v c 0 (omega arith)) at
-    (sum-change g.events (λ i. δ (face_of here (nth L i)) x) (λ i. δ (face_of here (nth (set L v c) i)) x) v l
+    (sum_change g.events (λ i. δ (face_of here (nth L i)) x) (λ i. δ (face_of here (nth (set L v c) i)) x) v l
     (λ i k d. ap (λ (y : ℕ). δ (face_of here y) x) (sym (get_or-set_other L v i c 0 d))))
 
 less_one : (s : List ℕ) (f x : ℕ) → f < length s → 1 ≤ nth s f → nth (set s f (nth s f - 1)) x + δ f x ≡ nth s x
 less_one s f x l p = elim (ℕ_discrete x f) [
   | yes e ↦ omega (arith, ap (nth (set s f (nth s f - 1))) e, get_or-set_same s f (nth s f - 1) 0 l, ap (nth s) e, δ-eq f x (sym e))
-  | no d ↦ omega (arith, get_or-set_other s f x (nth s f - 1) 0 d, δ-other f x (λ q. d (sym q)))
+  | no d ↦ omega (arith, get_or-set_other s f x (nth s f - 1) 0 d, δ_other f x (λ q. d (sym q)))
 ]
 
-more-one : (s : List ℕ) (f x : ℕ) → f < length s → nth (set s f (nth s f + 1)) x ≡ nth s x + δ f x
-more-one s f x l = elim (ℕ_discrete x f) [
+more_one : (s : List ℕ) (f x : ℕ) → f < length s → nth (set s f (nth s f + 1)) x ≡ nth s x + δ f x
+more_one s f x l = elim (ℕ_discrete x f) [
   | yes e ↦ omega (arith, ap (nth (set s f (nth s f + 1))) e, get_or-set_same s f (nth s f + 1) 0 l, ap (nth s) e, δ-eq f x (sym e))
-  | no d ↦ omega (arith, get_or-set_other s f x (nth s f + 1) 0 d, δ-other f x (λ q. d (sym q)))
+  | no d ↦ omega (arith, get_or-set_other s f x (nth s f + 1) 0 d, δ_other f x (λ q. d (sym q)))
 ]
 
 -- ---- a seat: the corner c of the event e, whose face f has room
@@ -50,21 +50,21 @@ pub record Seat (g : Drawing) (here L s : List ℕ) (e c f : ℕ) : Type 0 where
 
 -- the event takes it
 module _ {g : Drawing} {here L s : List ℕ} {e c f : ℕ} (T : Seat g here L s e c f) where
-  pub event-in : e < g.events
-  event-in = omega (arith, T.own, T.board.known c T.inside)
+  pub event_in : e < g.events
+  event_in = omega (arith, T.own, T.board.known c T.inside)
 
-  pub face-in : f < faces g
-  face-in = omega (arith, T.face, here-into T.board c T.inside)
+  pub face_in : f < faces g
+  face_in = omega (arith, T.face, here_into T.board c T.inside)
 
-  now-there : nth (set L e c) e ≡ c
-  now-there = get_or-set_same L e c 0 (omega (arith, T.valid.events, event-in))
+  now_there : nth (set L e c) e ≡ c
+  now_there = get_or-set_same L e c 0 (omega (arith, T.valid.events, event_in))
 
   other : (v : ℕ) → v ≢ e → nth (set L e c) v ≡ nth L v
   other v d = get_or-set_other L e v c 0 d
 
   own₁ : Own g (set L e c)
   own₁ v l = elim (ℕ_discrete v e) [
-    | yes q ↦ inr (rw (q, now-there) (T.inside, sym T.own))
+    | yes q ↦ inr (rw (q, now_there) (T.inside, sym T.own))
     | no d ↦ rw (other v d) (T.valid.own v l)
   ]
 
@@ -79,25 +79,25 @@ module _ {g : Drawing} {here L s : List ℕ} {e c f : ℕ} (T : Seat g here L s 
 
   still₁ : (v : ℕ) → nth L v < darts g → nth (set L e c) v < darts g
   still₁ v z = elim (ℕ_discrete v e) [
-    | yes q ↦ rw (q, now-there) T.inside
+    | yes q ↦ rw (q, now_there) T.inside
     | no q ↦ rw (other v q) z
   ]
 
   -- what changes in the face x
   load₁ : (x : ℕ) → load g here L x + δ f x ≡ load g here (set L e c) x + δ (face_of here (nth L e)) x
   load₁ x =
-      let q : face_of here c ≡ f = face-of here c (omega (arith, T.inside, T.board.keyed.size)) ∙ sym T.face in
-      rw q at (load_set g here L e c x T.valid.events event-in)
+      let q : face_of here c ≡ f = face_of_lem here c (omega (arith, T.inside, T.board.keyed.size)) ∙ sym T.face in
+      rw q at (load_set g here L e c x T.valid.events event_in)
 
   spare₁ : (x : ℕ) → nth (set s f (nth s f - 1)) x + δ f x ≡ nth s x
-  spare₁ x = less_one s f x (omega (arith, T.valid.keys, face-in)) T.room
+  spare₁ x = less_one s f x (omega (arith, T.valid.keys, face_in)) T.room
 
   -- it had no place before
-  pub placed-here : darts g ≤ nth L e → Placed g here L s e (set L e c) (set s f (nth s f - 1))
-  placed-here free = record {
+  pub placed_here : darts g ≤ nth L e → Placed g here L s e (set L e c) (set s f (nth s f - 1))
+  placed_here free = record {
     valid = valid₁ faces₁;
-    total = λ x l. omega (arith, load₁ x, spare₁ x, δ-other (face_of here (nth L e)) x (omega (arith, nowhere, T.board.keyed.size, faces-few g)));
-    placed = rw now-there T.inside;
+    total = λ x l. omega (arith, load₁ x, spare₁ x, δ_other (face_of here (nth L e)) x (omega (arith, nowhere, T.board.keyed.size, faces_few g)));
+    placed = rw now_there T.inside;
     none = λ v l d z. none₁ v d z;
     still = λ v l d z. still₁ v z;
   }
@@ -116,28 +116,28 @@ pub record Moving (g : Drawing) (here L₀ s₀ : List ℕ) (u : ℕ) (rank via 
   pub none : (v : ℕ) → v < g.events → v ≢ u → darts g ≤ nth L₀ v → darts g ≤ nth L v
   pub still : (v : ℕ) → v < g.events → v ≢ u → nth L₀ v < darts g → nth L v < darts g
 
-pub moving-start : {g : Drawing} {here L s : List ℕ} {u : ℕ} {rank via : List ℕ} {i : ℕ} → Board g here → Valid g L s → Way g here L s u rank via i → darts g ≤ nth L u
+pub moving_start : {g : Drawing} {here L s : List ℕ} {u : ℕ} {rank via : List ℕ} {i : ℕ} → Board g here → Valid g L s → Way g here L s u rank via i → darts g ≤ nth L u
     → Moving g here L s u rank via L s i
-moving-start B W R z = record { board = B; valid = W; way = R; free = z; total = λ f l. refl; none = λ v l d e. e; still = λ v l d e. e }
+moving_start B W R z = record { board = B; valid = W; way = R; free = z; total = λ f l. refl; none = λ v l d e. e; still = λ v l d e. e }
 
 module _ {g : Drawing} {here L₀ s₀ : List ℕ} {u : ℕ} {rank via L s : List ℕ} {i : ℕ} (M : Moving g here L₀ s₀ u rank via L s i) where
   pub place_in : i < length via
-  place_in = omega (arith, ends-few M.way.held, M.way.inside, M.way.held.vias)
+  place_in = omega (arith, ends_few M.way.held, M.way.inside, M.way.held.vias)
 
-  pub spare-few : (f : ℕ) → f < faces g → nth s f ≤ hold g here L₀ s₀ f
-  spare-few f l = omega (arith, M.total f l)
+  pub spare_few : (f : ℕ) → f < faces g → nth s f ≤ hold g here L₀ s₀ f
+  spare_few f l = omega (arith, M.total f l)
 
   -- the corner c of entry i, its event e and its face f
   module _ {c : ℕ} (is_c : c ≡ nth via i) where
-    pub corner-in : c < darts g
-    corner-in = omega (arith, (M.way.held.entry i M.way.inside).0, M.board.keyed.size)
+    pub corner_in : c < darts g
+    corner_in = omega (arith, (M.way.held.entry i M.way.inside).0, M.board.keyed.size)
 
     module _ {e : ℕ} (is-e : e ≡ event g c) {f : ℕ} (is_f : f ≡ nth here c) where
       pub seat : Seat g here L s e c f
       seat = record {
         board = M.board;
         valid = M.valid;
-        inside = corner-in;
+        inside = corner_in;
         own = is-e;
         face = is_f;
         room = omega (arith, M.way.spare, ap (nth s) (is_f ∙ ap (nth here) is_c));
@@ -152,7 +152,7 @@ module _ {g : Drawing} {here L₀ s₀ : List ℕ} {u : ℕ} {rank via L s : Lis
       pub landed : e ≡ u → Placed g here L₀ s₀ u (set L e c) (set s f (nth s f - 1))
       landed last =
           let P : Placed g here L s u (set L e c) (set s f (nth s f - 1)) =
-          subst (λ (x : ℕ). Placed g here L s x (set L e c) (set s f (nth s f - 1))) last (placed-here seat (omega (arith, ap (nth L) last, M.free))) in
+          subst (λ (x : ℕ). Placed g here L s x (set L e c) (set s f (nth s f - 1))) last (placed_here seat (omega (arith, ap (nth L) last, M.free))) in
           record {
             valid = P.valid;
             total = λ x l. P.total x l ∙ M.total x l;
@@ -166,45 +166,45 @@ module _ {g : Drawing} {here L₀ s₀ : List ℕ} {u : ℕ} {rank via L s : Lis
         left : (nth L e < darts g) × ((Seen rank (nth here (nth L e))) × (nth rank (nth here (nth L e)) ≤ i))
         left = ⊎_elim (λ a. absurd (more a)) (λ b. b) came
 
-        pub old-in : old < darts g
-        old-in = omega (arith, left.0)
+        pub old_in : old < darts g
+        old_in = omega (arith, left.0)
 
         module _ {h : ℕ} (is-h : h ≡ nth here old) where
-          same-h : h ≡ nth here (nth L e)
-          same-h = is-h ∙ ap (nth here) is-old
+          same_h : h ≡ nth here (nth L e)
+          same_h = is-h ∙ ap (nth here) is-old
 
-          pub old-face : h < faces g
-          old-face = omega (arith, here-into M.board old old-in)
+          pub old_face : h < faces g
+          old_face = omega (arith, here_into M.board old old_in)
 
-          pub old-rank : (1 ≤ nth rank h) × (nth rank h ≤ i)
-          old-rank = rw same-h left.1
+          pub old_rank : (1 ≤ nth rank h) × (nth rank h ≤ i)
+          old_rank = rw same_h left.1
 
           module _ {a : ℕ} (is-a : a ≡ nth s f) {s₁ : List ℕ} (stored : s₁ ≡ set s f (a - 1)) where
-            is-s : s₁ ≡ set s f (nth s f - 1)
-            is-s = stored ∙ ap (λ (x : ℕ). set s f (x - 1)) is-a
+            is_s : s₁ ≡ set s f (nth s f - 1)
+            is_s = stored ∙ ap (λ (x : ℕ). set s f (x - 1)) is-a
 
             size₁ : length s₁ ≡ faces g
-            size₁ = ap length is-s ∙ faces₁ seat
+            size₁ = ap length is_s ∙ faces₁ seat
 
-            pub old-size : h < length s₁
-            old-size = omega (arith, size₁, old-face)
+            pub old_size : h < length s₁
+            old_size = omega (arith, size₁, old_face)
 
-            pub old-few : nth s₁ h ≤ hold g here L₀ s₀ h
-            old-few = omega (arith, ap (λ (y : List ℕ). nth y h) is-s, spare₁ seat h, M.total h old-face)
+            pub old_few : nth s₁ h ≤ hold g here L₀ s₀ h
+            old_few = omega (arith, ap (λ (y : List ℕ). nth y h) is_s, spare₁ seat h, M.total h old_face)
 
             more₁ : (x : ℕ) → nth (set s₁ h (nth s₁ h + 1)) x ≡ nth s₁ x + δ h x
-            more₁ x = more-one s₁ h x (omega (arith, size₁, old-face))
+            more₁ x = more_one s₁ h x (omega (arith, size₁, old_face))
 
             total₂ : (x : ℕ) → x < faces g → hold g here (set L e c) (set s₁ h (nth s₁ h + 1)) x ≡ hold g here L s x
             total₂ x l =
-                let z : face_of here (nth L e) ≡ h = face-of here (nth L e) (omega (arith, left.0, M.board.keyed.size)) ∙ sym same-h in
-                omega (arith, load₁ seat x, spare₁ seat x, more₁ x, ap (λ (y : ℕ). δ y x) z, ap (λ (y : List ℕ). nth y x) is-s)
+                let z : face_of here (nth L e) ≡ h = face_of_lem here (nth L e) (omega (arith, left.0, M.board.keyed.size)) ∙ sym same_h in
+                omega (arith, load₁ seat x, spare₁ seat x, more₁ x, ap (λ (y : ℕ). δ y x) z, ap (λ (y : List ℕ). nth y x) is_s)
 
             from₂ : (j : ℕ) → j ≤ nth rank h - 1 → From g here (set L e c) u rank via j
             from₂ j l =
-                let k : (1 ≤ nth rank h) × (nth rank h ≤ i) = old-rank in
+                let k : (1 ≤ nth rank h) × (nth rank h ≤ i) = old_rank in
                 ⊎_elim (λ a. inl a)
-                (λ b. inr (rw (other seat (event g (nth via j)) (λ q. absurd (omega (arith, b.1.1, ap (λ (z : ℕ). nth rank (nth here (nth L z))) q, ap (nth rank) same-h)))) b))
+                (λ b. inr (rw (other seat (event g (nth via j)) (λ q. absurd (omega (arith, b.1.1, ap (λ (z : ℕ). nth rank (nth here (nth L z))) q, ap (nth rank) same_h)))) b))
                 (M.way.from j (omega arith))
 
             pub moved : Moving g here L₀ s₀ u rank via (set L e c) (set s₁ h (nth s₁ h + 1)) (nth rank h - 1)
@@ -214,11 +214,11 @@ module _ {g : Drawing} {here L₀ s₀ : List ℕ} {u : ℕ} {rank via L s : Lis
               way = record {
                 end = M.way.end;
                 held = M.way.held;
-                inside = omega (arith, old-rank.1, old-rank.0, M.way.inside);
+                inside = omega (arith, old_rank.1, old_rank.0, M.way.inside);
                 from = from₂;
                 spare =
-                    let q : nth here (nth via (nth rank h - 1)) ≡ h = (M.way.held.found h old-rank.0).1 in
-                    rw q (omega (arith, more₁ h, δ-same h));
+                    let q : nth here (nth via (nth rank h - 1)) ≡ h = (M.way.held.found h old_rank.0).1 in
+                    rw q (omega (arith, more₁ h, δ_same h));
               };
               free = none₁ seat u (λ q. more (sym q)) M.free;
               total = λ x l. total₂ x l ∙ M.total x l;
@@ -232,11 +232,11 @@ pub shift : {g : Drawing} {here L₀ s₀ : List ℕ} {u : ℕ} {rank via : List
     → (L' : List ℕ) × (s' : List ℕ) × Placed g here L₀ s₀ u L' s'
 shift {g} {u = u} {via = via} zero L s i l M = elim (ℕ_discrete (event g (nth via i)) u) [
   | yes e ↦ (_, _, landed M refl refl refl e)
-  | no d ↦ let r = old-rank M refl refl refl d refl refl in absurd (omega (arith, r.0, r.1))
+  | no d ↦ let r = old_rank M refl refl refl d refl refl in absurd (omega (arith, r.0, r.1))
 ]
 shift {g} {u = u} {via = via} (suc k) L s i l M = elim (ℕ_discrete (event g (nth via i)) u) [
   | yes e ↦ (_, _, landed M refl refl refl e)
   | no d ↦
-      let r = old-rank M refl refl refl d refl refl in
+      let r = old_rank M refl refl refl d refl refl in
       shift k _ _ _ (omega (arith, r.0, r.1)) (moved M refl refl refl d refl refl refl refl)
 ]

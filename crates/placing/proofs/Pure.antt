@@ -11,14 +11,14 @@ use Rattle.finite.proofs.Decide.{any?, ◌×?◌, ◌⊎?◌}
 use Rattle.finite.proofs.Filled.{blank}
 use Rattle.drawing.specs.Drawing.{Drawing, darts, event, faces}
 use Rattle.words.specs.Tables.{nth}
-use Rattle.chart.proofs.Keys.{faces-few}
+use Rattle.chart.proofs.Keys.{faces_few}
 use Rattle.placing.specs.Board.{Board, hold, Valid, All, Crowd}
 use Rattle.placing.specs.Search.{Seen, Held, Listed, From, Search, Way, member, Placed, Sofar}
-use Rattle.placing.proofs.Boards.{here-into}
-use Rattle.placing.proofs.Listing.{held_none, listed_more, end-in}
-use Rattle.placing.proofs.Moves.{moving-start, shift}
-use Rattle.placing.proofs.Finds.{from-kept, stuck}
-use Rattle.placing.proofs.Settles.{settle-start, settle-done, settle-skip, settle-kept, settle-add, settle-poles, settle-crowd}
+use Rattle.placing.proofs.Boards.{here_into}
+use Rattle.placing.proofs.Listing.{held_none, listed_more, end_in}
+use Rattle.placing.proofs.Moves.{moving_start, shift}
+use Rattle.placing.proofs.Finds.{from_kept, stuck}
+use Rattle.placing.proofs.Settles.{settle_start, settle_done, settle_skip, settle_kept, settle_add, settle_poles, settle_crowd}
 
 -- ---- a search
 
@@ -40,7 +40,7 @@ module _ {g : Drawing} {here L s : List ℕ} (u : ℕ) (B : Board g here) (K : V
 
     from_more : (i : ℕ) → i < t + 1 → From g here L u (set rank (nth here d) (t + 1)) (set via t d) i
     from_more i a = elim (dec_lt i t) [
-      | yes q ↦ from-kept g L u one_more.grown i q (from i q)
+      | yes q ↦ from_kept g L u one_more.grown i q (from i q)
       | no q ↦
           let e : nth (set via t d) i ≡ d = one_more.grown.new i (omega arith) a in
           rw e (⊎_elim (λ x. inl x) (λ x.
@@ -54,7 +54,7 @@ module _ {g : Drawing} {here L s : List ℕ} (u : ℕ) (B : Board g here) (K : V
   closed rank via t ranks H from none = elim (any? t (λ i. 1 ≤ nth s (nth here (nth via i))) (λ i. dec_lt 0 (nth s (nth here (nth via i))))) [
     | yes i ↦
         let R : Way g here L s u rank via i.0 = record { end = t; held = H; inside = i.1; from = λ j a. from j (omega (arith, i.1)); spare = i.2 } in
-        inl (shift i.0 L s i.0 (omega arith) (moving-start B K R free))
+        inl (shift i.0 L s i.0 (omega arith) (moving_start B K R free))
     | no no_room ↦
         let seen : (d : ℕ) → d < darts g → Wants rank d → Seen rank (nth here d) =
         λ d l w. elim (dec_lt (nth rank (nth here d)) 1) [ yes q ↦ absurd (none (d, omega (arith, B.keyed.size), (w, q))) | no q ↦ omega arith ] in
@@ -73,7 +73,7 @@ module _ {g : Drawing} {here L s : List ℕ} (u : ℕ) (B : Board g here) (K : V
   -- a face more at each step, up to all of them
   steps : (k : ℕ) (rank via : List ℕ) (t : ℕ) → faces g ≤ k + t → length rank ≡ faces g → Held here rank via t → ((i : ℕ) → i < t → From g here L u rank via i) → Finds
   steps zero rank via t b ranks H from = elim (any? (length here) (λ d. Wants rank d × (nth rank (nth here d) < 1)) (wants? rank)) [
-    | yes d ↦ absurd (omega (arith, end-in H d.0 d.1 d.2.1))
+    | yes d ↦ absurd (omega (arith, end_in H d.0 d.1 d.2.1))
     | no none ↦ closed rank via t ranks H from none
   ]
   steps (suc k) rank via t b ranks H from = elim (any? (length here) (λ d. Wants rank d × (nth rank (nth here d) < 1)) (wants? rank)) [
@@ -88,7 +88,7 @@ module _ {g : Drawing} {here L s : List ℕ} (u : ℕ) (B : Board g here) (K : V
       let zeros : List ℕ = replicate (faces g) 0 in
       let size : length zeros ≡ faces g = length-replicate (faces g) 0 in
       steps (faces g) zeros zeros 0 (omega arith) size
-      (held_none (λ c l. omega (arith, here-into B c (omega (arith, B.keyed.size)), size)) (omega (arith, size, faces-few g, B.keyed.size)) refl (blank zeros (faces g) refl))
+      (held_none (λ c l. omega (arith, here_into B c (omega (arith, B.keyed.size)), size)) (omega (arith, size, faces_few g, B.keyed.size)) refl (blank zeros (faces g) refl))
       (λ i a. absurd (omega arith))
 
 -- ---- all poles
@@ -100,23 +100,23 @@ module _ {g : Drawing} {here : List ℕ} (poles : ℕ → ℕ) (B : Board g here
   upto : (e : ℕ) → e ≤ g.events → ((L : List ℕ) × (s : List ℕ) × Sofar g here poles (nth room) e L s) ⊎ Crowded
   upto zero l =
       let none : List ℕ = replicate g.events (darts g) in
-      inl (none, room, settle-start poles B none room (length-replicate g.events (darts g)) size (λ v k. omega (arith, get_or-replicate {A = ℕ} g.events v (darts g) 0 k)))
+      inl (none, room, settle_start poles B none room (length-replicate g.events (darts g)) size (λ v k. omega (arith, get_or-replicate {A = ℕ} g.events v (darts g) 0 k)))
   upto (suc e) l = ⊎_elim
       (λ (x : (L : List ℕ) × (s : List ℕ) × Sofar g here poles (nth room) e L s).
       let b : e < g.events = omega arith in
       elim (ℕ_discrete (poles e) 1) [
-        | no d ↦ inl (x.0, x.1, rw (add-one e) at (settle-skip x.2 b d))
+        | no d ↦ inl (x.0, x.1, rw (add-one e) at (settle_skip x.2 b d))
         | yes p ↦ elim (dec_lt (nth x.0 e) (darts g)) [
-          | yes h ↦ inl (x.0, x.1, rw (add-one e) at (settle-kept x.2 b h))
+          | yes h ↦ inl (x.0, x.1, rw (add-one e) at (settle_kept x.2 b h))
           | no h ↦ ⊎_elim
-              (λ (y : (L' : List ℕ) × (s' : List ℕ) × Placed g here x.0 x.1 e L' s'). inl (y.0, y.1, rw (add-one e) at (settle-add x.2 b p y.2)))
+              (λ (y : (L' : List ℕ) × (s' : List ℕ) × Placed g here x.0 x.1 e L' s'). inl (y.0, y.1, rw (add-one e) at (settle_add x.2 b p y.2)))
               (λ (y : (rank : List ℕ) × (length rank ≤ darts g) × Crowd g here (hold g here x.0 x.1) (member here x.0 rank e)).
-              inr (member here x.0 y.0 e, settle-crowd x.2 y.2, (λ v k. omega arith), settle-poles x.2 p y.0 B y.1))
+              inr (member here x.0 y.0 e, settle_crowd x.2 y.2, (λ v k. omega arith), settle_poles x.2 p y.0 B y.1))
               (find e B x.2.valid b (omega arith))
         ]
       ])
       (λ x. inr x)
       (upto e (omega arith))
 
-  pub placement-or-crowd : ((L : List ℕ) × All g here poles (nth room) L) ⊎ Crowded
-  placement-or-crowd = ⊎_elim (λ (x : (L : List ℕ) × (s : List ℕ) × Sofar g here poles (nth room) g.events L s). inl (x.0, settle-done x.2 (omega arith))) (λ x. inr x) (upto g.events (omega arith))
+  pub placement_or_crowd : ((L : List ℕ) × All g here poles (nth room) L) ⊎ Crowded
+  placement_or_crowd = ⊎_elim (λ (x : (L : List ℕ) × (s : List ℕ) × Sofar g here poles (nth room) g.events L s). inl (x.0, settle_done x.2 (omega arith))) (λ x. inr x) (upto g.events (omega arith))

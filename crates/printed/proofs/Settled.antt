@@ -1,7 +1,7 @@
 -- What a listing determines: how many bytes it takes at most, and, but for a labelling, a circle and a cut, all of it. Assumes nothing.
---   listed-fits                      the text lies within the bytes that are lent
---   short-unique, told-unique        one answer with too little room; one number with room, and but for the exceptions one text
---   listed-unique                    both
+--   listed_fits                      the text lies within the bytes that are lent
+--   short_unique, told_unique        one answer with too little room; one number with room, and but for the exceptions one text
+--   listed_unique                    both
 use mathlib.Core.Path.{◌≡◌, sym, ap, ap₂, subst, ◌∙◌}
 use mathlib.Core.Bool.{not}
 use mathlib.Core.List.{List, ◌++◌}
@@ -14,40 +14,40 @@ use Rattle.rules.specs.Chart.{drawing}
 use Rattle.rules.specs.Tests.{tests}
 use Rattle.rules.specs.Report.{Entries}
 use Rattle.rules.specs.Listing.{listing}
-use Rattle.rules.proofs.Unique.{free, given-unique, entries-unique}
+use Rattle.rules.proofs.Unique.{free, given_unique, entries_unique}
 use Rattle.lines.specs.Printed.{listing_room}
 use Rattle.printed.specs.Listed.{full_room, Told, Listed}
 
-told-fits : (s o o' : List ℕ) (k : ℕ) → Told s o o' k → k ≤ length o'
-told-fits s o o' k t = omega (arith, t.size, simp length-append at (ap length t.text))
+told_fits : (s o o' : List ℕ) (k : ℕ) → Told s o o' k → k ≤ length o'
+told_fits s o o' k t = omega (arith, t.size, simp length-append at (ap length t.text))
 
 -- the text lies within the bytes that are lent
-pub listed-fits : (s o o' : List ℕ) (k : ℕ) → Listed s o o' k → k ≤ length o'
-listed-fits s o o' k l =
+pub listed_fits : (s o o' : List ℕ) (k : ℕ) → Listed s o o' k → k ≤ length o'
+listed_fits s o o' k l =
     elim (le? listing_room (length o)) [
-      | yes h ↦ told-fits s o o' k (l.full h)
+      | yes h ↦ told_fits s o o' k (l.full h)
       | no h ↦ omega (arith, (l.short (omega arith)).0)
     ]
 
 -- with too little room there is one answer
-pub short-unique : (s o a b : List ℕ) (j k : ℕ) → length o < listing_room → Listed s o a j → Listed s o b k → (j ≡ k) × (a ≡ b)
-short-unique s o a b j k h p q = ((p.short h).0 ∙ sym (q.short h).0, (p.short h).1 ∙ sym (q.short h).1)
+pub short_unique : (s o a b : List ℕ) (j k : ℕ) → length o < listing_room → Listed s o a j → Listed s o b k → (j ≡ k) × (a ≡ b)
+short_unique s o a b j k h p q = ((p.short h).0 ∙ sym (q.short h).0, (p.short h).1 ∙ sym (q.short h).1)
 
 -- with room the number is one; and unless a labelling, a circle or a cut is listed, so are the text and its length
-pub told-unique : (s o a b : List ℕ) (j k : ℕ) (p : Told s o a j) (q : Told s o b k) → (p.number ≡ q.number) × (T (not (free p.number)) → (j ≡ k) × (a ≡ b))
-told-unique s o a b j k p q =
-    let e : p.number ≡ q.number = given-unique tests s (length full_room) p.number q.number p.outcome.given q.outcome.given in (
+pub told_unique : (s o a b : List ℕ) (j k : ℕ) (p : Told s o a j) (q : Told s o b k) → (p.number ≡ q.number) × (T (not (free p.number)) → (j ≡ k) × (a ≡ b))
+told_unique s o a b j k p q =
+    let e : p.number ≡ q.number = given_unique tests s (length full_room) p.number q.number p.outcome.given q.outcome.given in (
       e,
       λ t.
           let m = q.outcome.entries in
           let allowed : Entries (drawing s) p.number m = subst (λ (n : ℕ). Entries (drawing s) n m) (sym e) q.outcome.allowed in
-          let l : p.outcome.entries ≡ m = entries-unique (drawing s) p.number p.outcome.entries m t p.outcome.allowed allowed in
+          let l : p.outcome.entries ≡ m = entries_unique (drawing s) p.number p.outcome.entries m t p.outcome.allowed allowed in
           let same : listing (drawing s) p.number p.outcome.entries ≡ listing (drawing s) q.number m = ap₂ (listing (drawing s)) e l in
           let long : j ≡ k = p.size ∙ ap length same ∙ sym q.size in
           (long, p.text ∙ ap₂ (λ (x : List ℕ) (i : ℕ). x ++ drop i o) same long ∙ sym q.text),
     )
 
-pub listed-unique : (s o a b : List ℕ) (j k : ℕ) (p : Listed s o a j) (q : Listed s o b k)
+pub listed_unique : (s o a b : List ℕ) (j k : ℕ) (p : Listed s o a j) (q : Listed s o b k)
     → (length o < listing_room → (j ≡ k) × (a ≡ b))
     × ((h : listing_room ≤ length o) → ((p.full h).number ≡ (q.full h).number) × (T (not (free (p.full h).number)) → (j ≡ k) × (a ≡ b)))
-listed-unique s o a b j k p q = (λ h. short-unique s o a b j k h p q, λ h. told-unique s o a b j k (p.full h) (q.full h))
+listed_unique s o a b j k p q = (λ h. short_unique s o a b j k h p q, λ h. told_unique s o a b j k (p.full h) (q.full h))

@@ -32,8 +32,8 @@ module _ (s : List ℕ) (well : is_well_formed s ≡ true) where
   unfolding is_well_formed
   held = five (leb 8 (length s)) _ _ _ _ well
 
-  pub form-long : 8 ≤ length s
-  form-long = leb-true 8 (length s) held.0
+  pub form_long : 8 ≤ length s
+  form_long = leb-true 8 (length s) held.0
 
   pub form-writes : writes (result_in s) ≡ true
   form-writes = held.1.0
@@ -49,27 +49,27 @@ module _ (s : List ℕ) (r c : ℕ) where
   picked false e = let z : ◌≡◌ {A = ℕ} 0 1 = cc in absurd (omega arith)
 
   -- the parts of a good form: the report is well formed, and these are its result and its count
-  pub form-parts : good r c ≡ form s → (is_well_formed s ≡ true) × ((r ≡ result_in s) × (c ≡ count_in s))
+  pub form_parts : good r c ≡ form s → (is_well_formed s ≡ true) × ((r ≡ result_in s) × (c ≡ count_in s))
   unfolding form
-  form-parts e = picked (is_well_formed s) e
+  form_parts e = picked (is_well_formed s) e
 
-  pub good-writes : good r c ≡ form s → writes r ≡ true
-  good-writes e = let p = form-parts e in ap writes p.1.0 ∙ form-writes s p.0
+  pub good_writes : good r c ≡ form s → writes r ≡ true
+  good_writes e = let p = form_parts e in ap writes p.1.0 ∙ form-writes s p.0
 
   -- the body has the bytes of c entries
   pub good_length : good r c ≡ form s → length (body s) ≡ entry r * c
   unfolding body
   good_length e =
-      let p = form-parts e in
+      let p = form_parts e in
       let all : length s ≡ 8 + entry r * c = form-length s p.0 ∙ sym (ap₂ (λ (n k : ℕ). 8 + entry n * k) p.1.0 p.1.1) in
       rw p.0 (omega (arith, length-drop 8 s))
 
   -- the entries: the bytes of the body, or the numbers in them
-  pub good-labels : good r c ≡ form s → r ≡ 0 → entries s ≡ body s
+  pub good_labels : good r c ≡ form s → r ≡ 0 → entries s ≡ body s
   unfolding entries
-  good-labels e z = simp (eq-eqb (result_in s) 0 (sym (form-parts e).1.0 ∙ z))
+  good_labels e z = simp (eq-eqb (result_in s) 0 (sym (form_parts e).1.0 ∙ z))
 
-  pub good-list : good r c ≡ form s → (r ≡ 0 → ⊥) → entries s ≡ words (body s) 0 c
+  pub good_list : good r c ≡ form s → (r ≡ 0 → ⊥) → entries s ≡ words (body s) 0 c
   unfolding entries
-  good-list e d =
-      let p = form-parts e in simp (ne_eqb (result_in s) 0 (λ z. d (p.1.0 ∙ z))) (ap (words (body s) 0) (sym p.1.1))
+  good_list e d =
+      let p = form_parts e in simp (ne_eqb (result_in s) 0 (λ z. d (p.1.0 ∙ z))) (ap (words (body s) 0) (sym p.1.1))

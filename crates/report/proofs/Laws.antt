@@ -21,8 +21,8 @@ use Rattle.report.specs.Headers.{header, Listed}
 pub writes-none : (n : ℕ) → (n ≡ 0 → ⊥) → n < 12 → writes n ≡ false
 writes-none n z l = simp (ne_eqb n 0 z, ne_eqb n 12 (λ e. omega arith), ne_eqb n 13 (λ e. omega arith), ne_eqb n 14 (λ e. omega arith))
 
-pub writes-past : (n : ℕ) → 15 ≤ n → writes n ≡ false
-writes-past n l = simp (ne_eqb n 0 (λ e. omega arith), ne_eqb n 12 (λ e. omega arith), ne_eqb n 13 (λ e. omega arith), ne_eqb n 14 (λ e. omega arith))
+pub writes_past : (n : ℕ) → 15 ≤ n → writes n ≡ false
+writes_past n l = simp (ne_eqb n 0 (λ e. omega arith), ne_eqb n 12 (λ e. omega arith), ne_eqb n 13 (λ e. omega arith), ne_eqb n 14 (λ e. omega arith))
 
 -- 12, 13 and 14 write a list
 listed : (P : ℕ → Type 0) → P 12 → P 13 → P 14 → (n : ℕ) → 12 ≤ n → n ≤ 14 → P n
@@ -35,20 +35,20 @@ listed P a b c n l h =
       ]
     ]
 
-pub writes-listed : (n : ℕ) → 12 ≤ n → n ≤ 14 → writes n ≡ true
-writes-listed = listed (λ n. writes n ≡ true) refl refl refl
+pub writes_listed : (n : ℕ) → 12 ≤ n → n ≤ 14 → writes n ≡ true
+writes_listed = listed (λ n. writes n ≡ true) refl refl refl
 
 -- ---- what the stores leave
 
-pub header-put : (s : List ℕ) (n c : ℕ) → 8 ≤ length s
+pub header_put : (s : List ℕ) (n c : ℕ) → 8 ≤ length s
     → with_word (set (with_word (set (set (set s 0 69) 1 86) 2 82) 3 1) 5 n) 6 c ≡ header n c ++ drop 8 s
 unfolding with_word
-header-put s n c h = sets-eq (header n c) s 0 h
+header_put s n c h = sets-eq (header n c) s 0 h
 
 -- a number stored in two bytes
-word-put : (s : List ℕ) (i v : ℕ) → i + 2 ≤ length s → with_word s i v ≡ take i s ++ (v % 256 ∷ v / 256 ∷ drop (i + 2) s)
+word_put : (s : List ℕ) (i v : ℕ) → i + 2 ≤ length s → with_word s i v ≡ take i s ++ (v % 256 ∷ v / 256 ∷ drop (i + 2) s)
 unfolding with_word
-word-put s i v h =
+word_put s i v h =
     let two : List ℕ = v % 256 ∷ v / 256 ∷ [] in
     ap (λ (k : ℕ). set (set s i (v % 256)) k (v / 256)) (add-one i) ∙ sets-eq two s i h ∙ append_assoc (take i s) two (drop (i + 2) s)
 
@@ -61,9 +61,9 @@ bytes-append (x ∷ xs) ys = ap (λ (l : List ℕ). x % 256 ∷ x / 256 ∷ l) (
 abbrev pub behind : List ℕ → List ℕ → ℕ → List ℕ
 behind r l i = take 8 r ++ (bytes (take i l) ++ drop (8 + 2 * i) r)
 
-pub behind-none : (r l : List ℕ) → r ≡ behind r l 0
+pub behind_none : (r l : List ℕ) → r ≡ behind r l 0
 unfolding bytes
-behind-none r l = sym (take-append-drop 8 r)
+behind_none r l = sym (take-append-drop 8 r)
 
 module _ (r l : List ℕ) (i : ℕ) (inside : i < length l) (room : 10 + 2 * i ≤ length r) where
   head : List ℕ
@@ -89,7 +89,7 @@ module _ (r l : List ℕ) (i : ℕ) (inside : i < length l) (room : 10 + 2 * i �
       ap (λ (k : ℕ). drop (k + 2) (head ++ rest)) (sym head-length) ∙ drop-append-add head rest 2 ∙ drop-drop 2 at r ∙ ap (λ (k : ℕ). drop k r) next in
       let one : bytes (take (i + 1) l) ≡ bytes (take i l) ++ two =
       ap (λ (k : ℕ). bytes (take k l)) (add-one i) ∙ ap bytes (take-suc l i 0 inside) ∙ bytes-append (take i l) (v ∷ []) in
-      ap (λ (s : List ℕ). with_word s at v) same ∙ word-put (head ++ rest) at v long
+      ap (λ (s : List ℕ). with_word s at v) same ∙ word_put (head ++ rest) at v long
       ∙ ap₂ (λ (p q : List ℕ). p ++ (v % 256 ∷ v / 256 ∷ q)) before past
       ∙ append_assoc (take 8 r) (bytes (take i l)) (two ++ drop (8 + 2 * (i + 1)) r)
       ∙ ap (λ (q : List ℕ). take 8 r ++ q) (sym (append_assoc (bytes (take i l)) two (drop (8 + 2 * (i + 1)) r)) ∙ ap (λ (q : List ℕ). q ++ drop (8 + 2 * (i + 1)) r) (sym one))
@@ -97,37 +97,37 @@ module _ (r l : List ℕ) (i : ℕ) (inside : i < length l) (room : 10 + 2 * i �
 -- ---- the report that is written
 
 -- header and body of a result that writes
-pub report-is : (n : ℕ) (l : List ℕ) → writes n ≡ true → report n l ≡ header n (length l) ++ cond (eqb n 0) l (bytes l)
+pub report_is : (n : ℕ) (l : List ℕ) → writes n ≡ true → report n l ≡ header n (length l) ++ cond (eqb n 0) l (bytes l)
 unfolding report bytes
-report-is n l w = ap (λ (b : Bool). cond b (header n (length l) ++ cond (eqb n 0) l (bytes l)) []) w
+report_is n l w = ap (λ (b : Bool). cond b (header n (length l) ++ cond (eqb n 0) l (bytes l)) []) w
 
 -- an entry of a list has two bytes
-pub list-size : (b list : List ℕ) (n c : ℕ) → Listed b n list c → 8 + entry n * c ≡ 8 + 2 * c
-list-size b list n c L = simp (ne_eqb n 0 (λ e. omega (arith, L.low)))
+pub list_size : (b list : List ℕ) (n c : ℕ) → Listed b n list c → 8 + entry n * c ≡ 8 + 2 * c
+list_size b list n c L = simp (ne_eqb n 0 (λ e. omega (arith, L.low)))
 
-list-is : (n : ℕ) (l : List ℕ) {b list : List ℕ} {c : ℕ} → Listed b n list c → report n l ≡ header n (length l) ++ bytes l
-list-is n l L = report-is n l (writes-listed n L.low L.high) ∙ simp (ne_eqb n 0 (λ e. omega (arith, L.low)))
+list_is : (n : ℕ) (l : List ℕ) {b list : List ℕ} {c : ℕ} → Listed b n list c → report n l ≡ header n (length l) ++ bytes l
+list_is n l L = report_is n l (writes_listed n L.low L.high) ∙ simp (ne_eqb n 0 (λ e. omega (arith, L.low)))
 
 -- the header put where the place for it was left
 headed : (b h t : List ℕ) → 8 ≤ length b → h ++ drop 8 (take 8 b ++ t) ≡ h ++ t
 headed b h t l = ap (λ (q : List ℕ). h ++ q) (drop_at (take 8 b) t 8 (length-take-le 8 b l))
 
 -- the numbers behind it: the report with a list
-pub list-report : (b list : List ℕ) (n c : ℕ) → Listed b n list c
+pub list_report : (b list : List ℕ) (n c : ℕ) → Listed b n list c
     → header n c ++ drop 8 (behind b list c) ≡ report n (take c list) ++ drop (8 + 2 * c) b
-list-report b list n c L =
+list_report b list n c L =
     let l = take c list in
     let rest = drop (8 + 2 * c) b in
     let same : length l ≡ c = length-take-le c list L.held in
     headed b (header n c) (bytes l ++ rest) (omega (arith, L.fits))
     ∙ sym (append_assoc (header n c) (bytes l) rest)
-    ∙ ap (λ (q : List ℕ). q ++ rest) (ap (λ (k : ℕ). header n k ++ bytes l) (sym same) ∙ sym (list-is n l L))
+    ∙ ap (λ (q : List ℕ). q ++ rest) (ap (λ (k : ℕ). header n k ++ bytes l) (sym same) ∙ sym (list_is n l L))
 
 pub list_length : (b list : List ℕ) (n c : ℕ) → Listed b n list c → 8 + 2 * c ≡ length (report n (take c list))
 list_length b list n c L =
     let l = take c list in
     let same : length l ≡ c = length-take-le c list L.held in
-    omega (arith, ap length (list-is n l L), bytes-length l)
+    omega (arith, ap length (list_is n l L), bytes-length l)
 
 -- ---- labels written in place: a caller lends the bytes of b from 8 to 8 + n, then puts the header
 
@@ -142,7 +142,7 @@ labels-report b l n h e =
     let same : 8 + (8 + n - 8) ≡ 8 + n = omega arith in
     headed b (header 0 n) (l ++ drop (8 + n - 8) (drop 8 b)) (omega arith)
     ∙ ap₂ (λ (c : ℕ) (q : List ℕ). header 0 c ++ (l ++ q)) (sym e) (drop-drop (8 + n - 8) 8 b ∙ ap (λ (c : ℕ). drop c b) same)
-    ∙ ap (λ (q : List ℕ). q ++ drop (8 + n) b) (sym (report-is 0 l refl))
+    ∙ ap (λ (q : List ℕ). q ++ drop (8 + n) b) (sym (report_is 0 l refl))
 
 pub labels_length : (l : List ℕ) (n : ℕ) → length l ≡ n → 8 + n ≡ length (report 0 l)
-labels_length l n e = omega (arith, ap length (report-is 0 l refl))
+labels_length l n e = omega (arith, ap length (report_is 0 l refl))

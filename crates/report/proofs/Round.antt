@@ -12,28 +12,28 @@ use Rattle.rules.specs.Report.{writes, entry, report, good, bad, is_well_formed,
 use Rattle.rules.proofs.Bytes.{words-bytes, bytes-length}
 use Rattle.report.specs.Headers.{header}
 use Rattle.report.proofs.Good.{tests_left}
-use Rattle.report.proofs.Laws.{report-is}
+use Rattle.report.proofs.Laws.{report_is}
 
 -- ---- any body behind a header
 
-count-in : (n c : ℕ) (t : List ℕ) → count_in (header n c ++ t) ≡ c
+count_in_lem : (n c : ℕ) (t : List ℕ) → count_in (header n c ++ t) ≡ c
 unfolding u16
-count-in n c t = omega arith
+count_in_lem n c t = omega arith
 
-version-in : (n c : ℕ) (t : List ℕ) → u16 (header n c ++ t) 3 ≡ 1
+version_in : (n c : ℕ) (t : List ℕ) → u16 (header n c ++ t) 3 ≡ 1
 unfolding u16
-version-in n c t = refl
+version_in n c t = refl
 
-well-headed : (n c : ℕ) (t : List ℕ) → writes n ≡ true → length t ≡ entry n * c → is_well_formed (header n c ++ t) ≡ true
-well-headed n c t w e =
+well_headed : (n c : ℕ) (t : List ℕ) → writes n ≡ true → length t ≡ entry n * c → is_well_formed (header n c ++ t) ≡ true
+well_headed n c t w e =
     let s = header n c ++ t in
-    let same : entry n * count_in s ≡ length t = ap (λ (k : ℕ). entry n * k) (count-in n c t) ∙ sym e in
-    tests_left s (omega arith) refl refl refl (version-in n c t) w ∙ eq-eqb (length s) (8 + entry n * count_in s) (omega arith)
+    let same : entry n * count_in s ≡ length t = ap (λ (k : ℕ). entry n * k) (count_in_lem n c t) ∙ sym e in
+    tests_left s (omega arith) refl refl refl (version_in n c t) w ∙ eq-eqb (length s) (8 + entry n * count_in s) (omega arith)
 
 -- the bytes of the entries are as many as the form asks
-content-length : (b : Bool) (l : List ℕ) → length (cond b l (bytes l)) ≡ cond b 1 2 * length l
-content-length true l = omega arith
-content-length false l = bytes-length l
+content_length : (b : Bool) (l : List ℕ) → length (cond b l (bytes l)) ≡ cond b 1 2 * length l
+content_length true l = omega arith
+content_length false l = bytes-length l
 
 read_back : (b : Bool) (l : List ℕ) → cond b (cond b l (bytes l)) (words (cond b l (bytes l)) 0 (length l)) ≡ l
 read_back true l = refl
@@ -47,42 +47,42 @@ module _ (n : ℕ) (l : List ℕ) (w : writes n ≡ true) where
 
   well : is_well_formed (header n (length l) ++ content) ≡ true
   unfolding content
-  well = well-headed n (length l) content w (content-length (eqb n 0) l)
+  well = well_headed n (length l) content w (content_length (eqb n 0) l)
 
-  pub round-well : is_well_formed (report n l) ≡ true
+  pub round_well : is_well_formed (report n l) ≡ true
   unfolding content
-  round-well = ap is_well_formed (report-is n l w) ∙ well
+  round_well = ap is_well_formed (report_is n l w) ∙ well
 
-  pub round-form : form (report n l) ≡ good n (length l)
+  pub round_form : form (report n l) ≡ good n (length l)
   unfolding content form
-  round-form =
-      ap form (report-is n l w)
+  round_form =
+      ap form (report_is n l w)
       ∙ ap (λ (b : Bool). cond b (good n (count_in (header n (length l) ++ content))) bad) well
-      ∙ ap (good n) (count-in n (length l) content)
+      ∙ ap (good n) (count_in_lem n (length l) content)
 
-  pub round-body : body (report n l) ≡ cond (eqb n 0) l (bytes l)
+  pub round_body : body (report n l) ≡ cond (eqb n 0) l (bytes l)
   unfolding content body
-  round-body = ap body (report-is n l w) ∙ ap (λ (b : Bool). cond b content []) well
+  round_body = ap body (report_is n l w) ∙ ap (λ (b : Bool). cond b content []) well
 
-  pub round-entries : entries (report n l) ≡ l
+  pub round_entries : entries (report n l) ≡ l
   unfolding content entries
-  round-entries =
+  round_entries =
       let s = header n (length l) ++ content in
-      let b : body s ≡ content = sym (ap body (report-is n l w)) ∙ round-body in
-      ap entries (report-is n l w)
-      ∙ ap₂ (λ (t : List ℕ) (c : ℕ). cond (eqb n 0) t (words t 0 c)) b (count-in n (length l) content)
+      let b : body s ≡ content = sym (ap body (report_is n l w)) ∙ round_body in
+      ap entries (report_is n l w)
+      ∙ ap₂ (λ (t : List ℕ) (c : ℕ). cond (eqb n 0) t (words t 0 c)) b (count_in_lem n (length l) content)
       ∙ read_back (eqb n 0) l
 
 -- ---- labels and cuts
 
 pub labels-form : (l : List ℕ) → form (report 0 l) ≡ good 0 (length l)
-labels-form l = round-form 0 l refl
+labels-form l = round_form 0 l refl
 
 pub labels-entries : (l : List ℕ) → entries (report 0 l) ≡ l
-labels-entries l = round-entries 0 l refl
+labels-entries l = round_entries 0 l refl
 
-pub cut-form : (l : List ℕ) → form (report 14 l) ≡ good 14 (length l)
-cut-form l = round-form 14 l refl
+pub cut_form : (l : List ℕ) → form (report 14 l) ≡ good 14 (length l)
+cut_form l = round_form 14 l refl
 
-pub cut-entries : (l : List ℕ) → entries (report 14 l) ≡ l
-cut-entries l = round-entries 14 l refl
+pub cut_entries : (l : List ℕ) → entries (report 14 l) ≡ l
+cut_entries l = round_entries 14 l refl

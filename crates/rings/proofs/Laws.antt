@@ -12,8 +12,8 @@ use borrow.Author.Count.{below_more}
 use Rattle.finite.specs.Says.{Says}
 use Rattle.finite.specs.Sums.{sum}
 use Rattle.finite.specs.Steps.{iter}
-use Rattle.finite.proofs.Sum.{sum_mono, sum-const, sum-numbers}
-use Rattle.finite.proofs.Yes.{says-as, says-equal}
+use Rattle.finite.proofs.Sum.{sum_mono, sum_const, sum-numbers}
+use Rattle.finite.proofs.Yes.{says_as, says_equal}
 use Rattle.finite.proofs.Walk.{Walk, walk_step}
 use Rattle.drawing.specs.Drawing.{Drawing, darts, event, after}
 use Rattle.drawing.proofs.Rounds.{Keeps, Kept}
@@ -23,9 +23,9 @@ use Rattle.chart.specs.Shape.{Shape}
 use Rattle.rings.specs.Rounds.{Returned}
 
 -- c is the successor of d, and x and y are their events
-pub says-keeps : (g : Drawing) (d c x y : ℕ) → c ≡ after g d → c < darts g → x ≡ event g c → y ≡ event g d → Says (eqb x y) (Keeps g d)
-says-keeps g d c x y p l q r =
-    says-as (eqb x y) (λ e. (omega arith, ap (event g) (sym p) ∙ sym q ∙ e ∙ r)) (λ k. q ∙ ap (event g) p ∙ k.1 ∙ sym r) (says-equal x y)
+pub says_keeps : (g : Drawing) (d c x y : ℕ) → c ≡ after g d → c < darts g → x ≡ event g c → y ≡ event g d → Says (eqb x y) (Keeps g d)
+says_keeps g d c x y p l q r =
+    says_as (eqb x y) (λ e. (omega arith, ap (event g) (sym p) ∙ sym q ∙ e ∙ r)) (λ k. q ∙ ap (event g) p ∙ k.1 ∙ sym r) (says_equal x y)
 
 -- ---- the successors of the darts below d
 
@@ -33,56 +33,56 @@ pub record Steady (g : Drawing) (d total : ℕ) : Type 0 where
   pub kept : (k : ℕ) → k < d → Keeps g k
   pub adds : total ≡ sum d (after g)
 
-pub steady-start : (g : Drawing) → Steady g 0 0
+pub steady_start : (g : Drawing) → Steady g 0 0
 unfolding sum
-steady-start g = record { kept = λ k l. absurd (omega arith); adds = refl }
+steady_start g = record { kept = λ k l. absurd (omega arith); adds = refl }
 
 module _ (g : Drawing) (d total : ℕ) (S : Steady g d total) where
   -- both darts of an arrow
-  pub steady-on : (b c : ℕ) → b ≡ after g d → Keeps g d → c ≡ after g (d + 1) → Keeps g (d + 1) → Steady g (d + 2) (total + (b + c))
+  pub steady_on : (b c : ℕ) → b ≡ after g d → Keeps g d → c ≡ after g (d + 1) → Keeps g (d + 1) → Steady g (d + 2) (total + (b + c))
   unfolding sum
-  steady-on b c p k q h = record {
+  steady_on b c p k q h = record {
     kept = λ e l. elim (ℕ_discrete e (d + 1)) [ yes r ↦ rw r h | no r ↦ below_more (Keeps g) d S.kept k e (omega arith) ];
-    adds = omega (arith, S.adds, sum-two);
+    adds = omega (arith, S.adds, sum_two);
   }
     where
-      sum-two : sum (d + 2) (after g) ≡ sum d (after g) + after g d + after g (d + 1)
-      sum-two = let r : d + 2 ≡ suc (suc d) = omega arith in rw (r, add-one) refl
+      sum_two : sum (d + 2) (after g) ≡ sum d (after g) + after g d + after g (d + 1)
+      sum_two = let r : d + 2 ≡ suc (suc d) = omega arith in rw (r, add-one) refl
 
-  pub steady-few : darts g ≤ 6144 → total ≤ d * 6144
-  steady-few few =
-      omega (arith, S.adds, sum_mono d (after g) (λ k. 6144) (λ k l. omega (arith, (S.kept k l).0)), sum-const d 6144)
+  pub steady_few : darts g ≤ 6144 → total ≤ d * 6144
+  steady_few few =
+      omega (arith, S.adds, sum_mono d (after g) (λ k. 6144) (λ k l. omega (arith, (S.kept k l).0)), sum_const d 6144)
 
   -- the darts add up to n * (n - 1) / 2
-  pub steady-done : (n : ℕ) → n ≡ d → n ≡ darts g → Says (eqb (2 * total + n) (n * n)) (Kept g × Level g)
-  steady-done n q r =
-      says-as (eqb (2 * total + n) (n * n)) (λ e. (λ k l. S.kept k (omega arith), rw (← r) (omega (arith, e, adds, sum-numbers n))))
-      (λ h. omega (arith, rw (← r) at h.1, adds, sum-numbers n)) (says-equal (2 * total + n) (n * n))
+  pub steady_done : (n : ℕ) → n ≡ d → n ≡ darts g → Says (eqb (2 * total + n) (n * n)) (Kept g × Level g)
+  steady_done n q r =
+      says_as (eqb (2 * total + n) (n * n)) (λ e. (λ k l. S.kept k (omega arith), rw (← r) (omega (arith, e, adds, sum-numbers n))))
+      (λ h. omega (arith, rw (← r) at h.1, adds, sum-numbers n)) (says_equal (2 * total + n) (n * n))
     where
       adds : total ≡ sum n (after g)
       adds = S.adds ∙ ap (λ (x : ℕ). sum x (after g)) (sym q)
 
 -- n * n of few
-pub square-few : (n : ℕ) → n ≤ 6144 → n * n ≤ 37748736
-square-few n l = omega (arith, sum-const n n, sum-const n 6144, sum_mono n (λ k. n) (λ k. 6144) (λ k h. l))
+pub square_few : (n : ℕ) → n ≤ 6144 → n * n ≤ 37748736
+square_few n l = omega (arith, sum_const n n, sum_const n 6144, sum_mono n (λ k. n) (λ k. 6144) (λ k h. l))
 
 -- ---- a walk from d that has come to c in k steps, without a return
 
 -- the successor of a dart is a dart
-pub walk-in : (s : List ℕ) (n : ℕ) → Shape s n → Kept (drawing s) → (c e : ℕ) → c < n → e ≡ after (drawing s) c → e < n
-walk-in s n S K c e l q = omega (arith, S.darts, (K c (omega (arith, S.darts))).0)
+pub walk_in : (s : List ℕ) (n : ℕ) → Shape s n → Kept (drawing s) → (c e : ℕ) → c < n → e ≡ after (drawing s) c → e < n
+walk_in s n S K c e l q = omega (arith, S.darts, (K c (omega (arith, S.darts))).0)
 
 module _ (g : Drawing) (d k c : ℕ) (W : Walk (after g) d k c) where
-  pub walk-on : (e : ℕ) → e ≡ after g c → e ≢ d → Walk (after g) d (k + 1) e
-  walk-on e q o = rw q (walk_step (after g) d k c W (λ r. o (q ∙ r)))
+  pub walk_on : (e : ℕ) → e ≡ after g c → e ≢ d → Walk (after g) d (k + 1) e
+  walk_on e q o = rw q (walk_step (after g) d k c W (λ r. o (q ∙ r)))
 
-  pub walk-back : (e : ℕ) → e ≡ after g c → e ≡ d → (left : ℕ) → k + 1 ≤ left → Returned g d left (k + 1)
+  pub walk_back : (e : ℕ) → e ≡ after g c → e ≡ d → (left : ℕ) → k + 1 ≤ left → Returned g d left (k + 1)
   unfolding iter
-  walk-back e q r left h = record {
+  walk_back e q r left h = record {
     within = h;
     ring = λ a. record { some = a; back = rw add-one (ap (after g) (sym W.here) ∙ sym q ∙ r); fresh = λ j x y. W.fresh j x (omega arith) };
     none = λ a. absurd (omega arith);
   }
 
-  pub walk-open : (left : ℕ) → left ≡ k → Returned g d left 0
-  walk-open left q = record { within = omega arith; ring = λ a. absurd (omega arith); none = λ a j x y. W.fresh j x (omega arith) }
+  pub walk_open : (left : ℕ) → left ≡ k → Returned g d left 0
+  walk_open left q = record { within = omega arith; ring = λ a. absurd (omega arith); none = λ a j x y. W.fresh j x (omega arith) }

@@ -9,7 +9,7 @@ use borrow.Author.Count.{below_more}
 use lib.ListN.{length, set, replicate, length-set, length-replicate, get_or-replicate}
 use lib.Seq.{get_or-set_same, get_or-set_other}
 use Rattle.finite.specs.Sums.{δ}
-use Rattle.finite.proofs.Sum.{δ-eq, δ-other, sum-change, sum-cong, sum-const, sum-term, sum-zero}
+use Rattle.finite.proofs.Sum.{δ-eq, δ_other, sum_change, sum_cong, sum_const, sum_term, sum-zero}
 use Rattle.drawing.specs.Drawing.{Drawing, darts, event}
 use Rattle.rules.specs.Chart.{drawing}
 use Rattle.words.specs.Tables.{nth}
@@ -17,12 +17,12 @@ use Rattle.rings.specs.Joining.{From, Marked, bare, Queued, Ready, Grown, Pushed
 
 -- ---- growing
 
-pub grown-none : (m q : List ℕ) (t : ℕ) → Grown m q t m q t
-grown-none m q t = record { longer = omega arith; kept = λ v w. w; same = λ i l. refl }
+pub grown_none : (m q : List ℕ) (t : ℕ) → Grown m q t m q t
+grown_none m q t = record { longer = omega arith; kept = λ v w. w; same = λ i l. refl }
 
-pub grown-more : {m q : List ℕ} {t : ℕ} {m₁ q₁ : List ℕ} {t₁ : ℕ} {m₂ q₂ : List ℕ} {t₂ : ℕ}
+pub grown_more : {m q : List ℕ} {t : ℕ} {m₁ q₁ : List ℕ} {t₁ : ℕ} {m₂ q₂ : List ℕ} {t₂ : ℕ}
     → Grown m q t m₁ q₁ t₁ → Grown m₁ q₁ t₁ m₂ q₂ t₂ → Grown m q t m₂ q₂ t₂
-grown-more a b = record {
+grown_more a b = record {
   longer = omega (arith, a.longer, b.longer);
   kept = λ v w. b.kept v (a.kept v w);
   same = λ i l. b.same i (omega (arith, a.longer)) ∙ a.same i l;
@@ -31,54 +31,54 @@ grown-more a b = record {
 -- ---- the events without a mark
 
 module _ (g : Drawing) (m : List ℕ) (size : length m ≡ g.events) where
-  bare-less : (v x : ℕ) → v < g.events → x ≢ 65535 → nth m v ≡ 65535 → bare g m ≡ bare g (set m v x) + 1
+  bare_less : (v x : ℕ) → v < g.events → x ≢ 65535 → nth m v ≡ 65535 → bare g m ≡ bare g (set m v x) + 1
   unfolding bare
-  bare-less v x l o h =
+  bare_less v x l o h =
       let same : nth (set m v x) v ≡ x = get_or-set_same m v x 0 (omega arith) in
       omega (
         arith,
-        sum-change g.events (λ u. δ (nth m u) 65535) (λ u. δ (nth (set m v x) u) 65535) v l
+        sum_change g.events (λ u. δ (nth m u) 65535) (λ u. δ (nth (set m v x) u) 65535) v l
             (λ u k d. ap (λ (y : ℕ). δ y 65535) (sym (get_or-set_other m v u x 0 d))),
         δ-eq (nth m v) 65535 h,
-        δ-other (nth (set m v x) v) 65535 (λ q. o (sym same ∙ q)),
+        δ_other (nth (set m v x) v) 65535 (λ q. o (sym same ∙ q)),
       )
 
   -- another mark in the place of one
-  bare-same : (v x : ℕ) → v < g.events → x ≢ 65535 → Marked m v → bare g (set m v x) ≡ bare g m
+  bare_same : (v x : ℕ) → v < g.events → x ≢ 65535 → Marked m v → bare g (set m v x) ≡ bare g m
   unfolding bare
-  bare-same v x l o h =
+  bare_same v x l o h =
       let same : nth (set m v x) v ≡ x = get_or-set_same m v x 0 (omega arith) in
       omega (
         arith,
-        sum-change g.events (λ u. δ (nth m u) 65535) (λ u. δ (nth (set m v x) u) 65535) v l
+        sum_change g.events (λ u. δ (nth m u) 65535) (λ u. δ (nth (set m v x) u) 65535) v l
             (λ u k d. ap (λ (y : ℕ). δ y 65535) (sym (get_or-set_other m v u x 0 d))),
-        δ-other (nth m v) 65535 h,
-        δ-other (nth (set m v x) v) 65535 (λ q. o (sym same ∙ q)),
+        δ_other (nth m v) 65535 h,
+        δ_other (nth (set m v x) v) 65535 (λ q. o (sym same ∙ q)),
       )
 
   pub bare-none : bare g m ≡ 0 → (v : ℕ) → v < g.events → Marked m v
   unfolding bare
-  bare-none z v l e = omega (arith, sum-term g.events (λ x. δ (nth m x) 65535) v l, δ-eq (nth m v) 65535 e)
+  bare-none z v l e = omega (arith, sum_term g.events (λ x. δ (nth m x) 65535) v l, δ-eq (nth m v) 65535 e)
 
   pub bare-all : ((v : ℕ) → v < g.events → Marked m v) → bare g m ≡ 0
   unfolding bare
-  bare-all h = sum-zero g.events (λ x. δ (nth m x) 65535) (λ x l. δ-other (nth m x) 65535 (h x l))
+  bare-all h = sum-zero g.events (λ x. δ (nth m x) 65535) (λ x l. δ_other (nth m x) 65535 (h x l))
 
 pub empty : (g : Drawing) (m q : List ℕ) (k : ℕ) → m ≡ replicate k 65535 → k ≡ g.events → length q ≡ g.events → Queued g m q 0
 unfolding bare
 empty g m q k e p r = record {
   marks = ap length e ∙ length-replicate k 65535 ∙ p;
   room = r;
-  count = omega (arith, sum-cong g.events (λ v. δ (nth m v) 65535) (λ v. 1) (λ v l. δ-eq (nth m v) 65535 (none-at v l)), sum-const g.events 1);
+  count = omega (arith, sum_cong g.events (λ v. δ (nth m v) 65535) (λ v. 1) (λ v l. δ-eq (nth m v) 65535 (none_at v l)), sum_const g.events 1);
   entry = λ i l. absurd (omega arith);
   once = λ i j h l. absurd (omega arith);
-  found = λ v l w. absurd (w (none-at v l));
-  own = λ v l w. absurd (w (none-at v l));
-  real = λ v l w. absurd (w (none-at v l));
+  found = λ v l w. absurd (w (none_at v l));
+  own = λ v l w. absurd (w (none_at v l));
+  real = λ v l w. absurd (w (none_at v l));
 }
   where
-    none-at : (v : ℕ) → v < g.events → nth m v ≡ 65535
-    none-at v l = ap (λ (z : List ℕ). nth z v) e ∙ get_or-replicate {A = ℕ} k v 65535 0 (omega arith)
+    none_at : (v : ℕ) → v < g.events → nth m v ≡ 65535
+    none_at v l = ap (λ (z : List ℕ). nth z v) e ∙ get_or-replicate {A = ℕ} k v 65535 0 (omega arith)
 
 -- ---- a push. The code has the event of x as v, and its mark as y
 
@@ -92,35 +92,35 @@ module _ {s : List ℕ} {n x : ℕ} {m q : List ℕ} {t : ℕ} (A : Ready s n x 
   known : v < g.events
   known = omega (arith, at, A.ground.known x inside)
 
-  pub marked-in : v < length m
-  marked-in = omega (arith, known, A.queued.marks)
+  pub marked_in : v < length m
+  marked_in = omega (arith, known, A.queued.marks)
 
   -- the queue is full: every event has its mark
   pub full : length q ≤ t → Pushed g x m q t m q t
   full l = record {
     queued = A.queued;
-    grown = grown-none m q t;
+    grown = grown_none m q t;
     here = bare-none g m A.queued.marks (omega (arith, A.queued.count, A.queued.room)) (event g x) (A.ground.known x inside);
   }
 
   -- the mark that is stored, a dart of the event
-  a-mark : x ≢ 65535
-  a-mark e = omega (arith, inside, A.ground.shape.darts, A.ground.shape.few)
+  a_mark : x ≢ 65535
+  a_mark e = omega (arith, inside, A.ground.shape.darts, A.ground.shape.few)
 
   mark : nth (set m v x) v ≡ x
-  mark = get_or-set_same m v x 0 marked-in
+  mark = get_or-set_same m v x 0 marked_in
 
   earlier : (i : ℕ) → i < t → nth (set q t x) i ≡ nth q i
   earlier i p = get_or-set_other q t i x 0 (λ e. omega arith)
 
   keep : (w : ℕ) → Marked m w → Marked (set m v x) w
   keep w k = elim (ℕ_discrete w v) [
-    | yes e ↦ λ r. a-mark (sym mark ∙ ap (nth (set m v x)) (sym e) ∙ r)
+    | yes e ↦ λ r. a_mark (sym mark ∙ ap (nth (set m v x)) (sym e) ∙ r)
     | no e ↦ λ r. k (sym (get_or-set_other m v w x 0 e) ∙ r)
   ]
 
   here : Marked (set m v x) (event g x)
-  here r = a-mark (sym mark ∙ ap (nth (set m v x)) at ∙ r)
+  here r = a_mark (sym mark ∙ ap (nth (set m v x)) at ∙ r)
 
   -- what was marked before, unless it is v
   before : (w : ℕ) → w ≢ v → Marked (set m v x) w → Marked m w
@@ -147,7 +147,7 @@ module _ {s : List ℕ} {n x : ℕ} {m q : List ℕ} {t : ℕ} (A : Ready s n x 
           queued = record {
             marks = length-set m v x ∙ A.queued.marks;
             room = length-set q t x ∙ A.queued.room;
-            count = omega (arith, bare-same g m A.queued.marks v x known a-mark h, A.queued.count);
+            count = omega (arith, bare_same g m A.queued.marks v x known a_mark h, A.queued.count);
             entry = λ i p. rw (earlier i p) ((A.queued.entry i p).0, keep (event g (nth q i)) (A.queued.entry i p).1);
             once = λ i j l p. rw (earlier i (omega arith), earlier j p) (A.queued.once i j l p);
             found = λ u l k.
@@ -162,7 +162,7 @@ module _ {s : List ℕ} {n x : ℕ} {m q : List ℕ} {t : ℕ} (A : Ready s n x 
 
     module _ (h : y ≡ 65535) where
       less : bare g m ≡ bare g (set m v x) + 1
-      less = bare-less g m A.queued.marks v x known a-mark (sym read ∙ h)
+      less = bare_less g m A.queued.marks v x known a_mark (sym read ∙ h)
 
       room : t < length q
       room = omega (arith, less, A.queued.count, A.queued.room)

@@ -7,10 +7,10 @@ use Prim.Native.Nat.{ℕ, ◌+◌, ◌-◌, ◌<◌, ◌≤◌}
 use native.Mathlib.Omega.{arith}
 use borrow.Author.Count.{below_more}
 use lib.ListN.{length, replicate}
-use Rattle.finite.proofs.Orbit.{apart-inj}
+use Rattle.finite.proofs.Orbit.{apart_inj}
 use Rattle.drawing.specs.Drawing.{Drawing, darts, event, twin}
 use Rattle.drawing.specs.Conditions.{Rings}
-use Rattle.drawing.proofs.Counted.{Tally, Turns, tally-none, tally-same, tally-ring, turns-all, refuse-open, rings-whole}
+use Rattle.drawing.proofs.Counted.{Tally, Turns, tally_none, tally_same, tally_ring, turns_all, refuse_open, rings_whole}
 use Rattle.rules.specs.Chart.{drawing}
 use Rattle.words.specs.Tables.{nth}
 use Rattle.rings.specs.Joining.{Ground, From, start, along, Marked, Queued, Ready, Pushed, Rounded, Followed}
@@ -32,11 +32,11 @@ module _ {s : List ℕ} {n : ℕ} (G : Ground s n) where
   turns : (m q : List ℕ) (t : ℕ) → Queued g m q t → (k : ℕ) → k ≤ t → Turns g (λ i. event g (nth q i)) k
   turns m q t Q k l = (
     λ i h. G.known (nth q i) (Q.entry i (omega arith)).0,
-    apart-inj k (λ i. event g (nth q i)) (λ i j a b. Q.once i j a (omega arith)),
+    apart_inj k (λ i. event g (nth q i)) (λ i j a b. Q.once i j a (omega arith)),
   )
 
-  pub ready-first : (m q : List ℕ) (k : ℕ) → m ≡ replicate k 65535 → k ≡ g.events → length q ≡ g.events → Ready s n 0 m q 0
-  ready-first m q k e p r = record { ground = G; dart = omega (arith, G.shape.some); queued = empty g m q k e p r; joined = start }
+  pub ready_first : (m q : List ℕ) (k : ℕ) → m ≡ replicate k 65535 → k ≡ g.events → length q ≡ g.events → Ready s n 0 m q 0
+  ready_first m q k e p r = record { ground = G; dart = omega (arith, G.shape.some); queued = empty g m q k e p r; joined = start }
 
   pub opened : (m q m' q' : List ℕ) (t : ℕ) → Pushed g 0 m q 0 m' q' t → Closing g m' q' 0 t 0
   opened m q m' q' t P = record {
@@ -44,7 +44,7 @@ module _ {s : List ℕ} {n : ℕ} (G : Ground s n) where
     within = omega arith;
     few = omega arith;
     first = P.here;
-    told = tally-none g (λ i. event g (nth q' i));
+    told = tally_none g (λ i. event g (nth q' i));
     shut = λ R i l. absurd (omega arith);
   }
 
@@ -52,8 +52,8 @@ module _ {s : List ℕ} {n : ℕ} (G : Ground s n) where
     pub ends : t ≤ g.events
     ends = omega (arith, C.queued.count)
 
-    pub met-few : met ≤ n
-    met-few = omega (arith, C.few, G.shape.darts)
+    pub met_few : met ≤ n
+    met_few = omega (arith, C.few, G.shape.darts)
 
     pub place : h < t → h < length q
     place l = omega (arith, ends, C.queued.room)
@@ -78,7 +78,7 @@ module _ {s : List ℕ} {n : ℕ} (G : Ground s n) where
         -- the same places of the queue, with what was pushed
         told : Tally g (λ i. event g (nth q' i)) h met
         told =
-            tally-same g (λ i. event g (nth q i)) (λ i. event g (nth q' i)) h met
+            tally_same g (λ i. event g (nth q i)) (λ i. event g (nth q' i)) h met
             (λ i j. ap (event g) (P.grown.same i (omega arith))) C.told
 
         there : event g x ≡ event g (nth q' h)
@@ -90,7 +90,7 @@ module _ {s : List ℕ} {n : ℕ} (G : Ground s n) where
           size = P.queued.marks;
           whole = λ e. absurd (omega (arith, G.shape.darts));
           refused = λ o.
-              refuse-open g (λ i. event g (nth q' i)) h met told G.kept x inside there G.known
+              refuse_open g (λ i. event g (nth q' i)) h met told G.kept x inside there G.known
               (turns m' q' t' P.queued (h + 1) (omega (arith, P.grown.longer))) (n - met) (omega (arith, G.shape.darts)) (P.back.none z);
           short = λ o. absurd (omega (arith, G.shape.darts));
           met = λ o. absurd (omega (arith, G.shape.darts));
@@ -103,7 +103,7 @@ module _ {s : List ℕ} {n : ℕ} (G : Ground s n) where
           within = omega (arith, P.grown.longer);
           few = omega (arith, P.back.within, G.shape.darts, C.few);
           first = P.grown.kept (event g 0) C.first;
-          told = tally-ring g (λ i. event g (nth q' i)) h met told G.kept x inside there k (P.back.ring z);
+          told = tally_ring g (λ i. event g (nth q' i)) h met told G.kept x inside there k (P.back.ring z);
           shut = λ R.
               below_more (λ (i : ℕ). (d : ℕ) → d < darts g → event g d ≡ event g (nth q' i) → Marked m' (event g (twin d))) h
               (λ i j d b r.
@@ -123,13 +123,13 @@ module _ {s : List ℕ} {n : ℕ} (G : Ground s n) where
       followed = record {
         size = C.queued.marks;
         whole = λ e.
-            rings-whole g (λ i. event g (nth q i)) h met C.told G.kept G.known (turns m q t C.queued h C.within) e;
+            rings_whole g (λ i. event g (nth q i)) h met C.told G.kept G.known (turns m q t C.queued h C.within) e;
         refused = λ o. absurd (omega (arith, C.few));
         short = λ o all R.
             let none = bare-all g m C.queued.marks (λ v k. all v (omega (arith, C.queued.marks))) in
             let every : h ≡ g.events = omega (arith, none, C.queued.count, C.within) in
             let T = turns m q t C.queued h C.within in
-            omega (arith, C.told.exact R, turns-all g G.known (λ i. event g (nth q i)) h every T);
+            omega (arith, C.told.exact R, turns_all g G.known (λ i. event g (nth q i)) h every T);
         met = λ o R. record { size = C.queued.marks; own = C.queued.own; real = C.queued.real; each = λ v k f. closed R f };
         gone = λ o. record {
           turn = λ i. event g (nth q i);

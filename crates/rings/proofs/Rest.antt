@@ -12,13 +12,13 @@ use lib.ListN.{length}
 use lib.Dec.{eqb}
 use Rattle.finite.specs.Says.{Says}
 use Rattle.finite.specs.Sums.{sum}
-use Rattle.finite.proofs.Along.{along-missed}
-use Rattle.finite.proofs.Orbit.{apart-inj}
-use Rattle.finite.proofs.Yes.{says-as, says-equal}
+use Rattle.finite.proofs.Along.{along_missed}
+use Rattle.finite.proofs.Orbit.{apart_inj}
+use Rattle.finite.proofs.Yes.{says_as, says_equal}
 use Rattle.drawing.specs.Drawing.{Drawing, darts, event}
 use Rattle.drawing.specs.Conditions.{EventsKnown, Rings}
 use Rattle.drawing.proofs.Rounds.{Kept}
-use Rattle.drawing.proofs.Counted.{around, Tally, Turns, around-total, tally-same, tally-skip, tally-ring, turns-few, refuse-open, rings-whole}
+use Rattle.drawing.proofs.Counted.{around, Tally, Turns, around_total, tally_same, tally_skip, tally_ring, turns_few, refuse_open, rings_whole}
 use Rattle.rules.specs.Chart.{drawing}
 use Rattle.words.specs.Tables.{nth}
 use Rattle.chart.specs.Shape.{Shape}
@@ -29,18 +29,18 @@ use Rattle.rings.specs.Joining.{Marked, Gone, Passed}
 unfoldable pub onto : (ℕ → ℕ) → ℕ → ℕ → ℕ → ℕ
 onto x k v i = cond (eqb i k) v (x i)
 
-onto-there : (x : ℕ → ℕ) (k v : ℕ) → onto x k v k ≡ v
+onto_there : (x : ℕ → ℕ) (k v : ℕ) → onto x k v k ≡ v
 unfolding onto
-onto-there x k v = simp (eq-eqb k k refl) refl
+onto_there x k v = simp (eq-eqb k k refl) refl
 
-onto-other : (x : ℕ → ℕ) (k v i : ℕ) → i ≢ k → onto x k v i ≡ x i
+onto_other : (x : ℕ → ℕ) (k v i : ℕ) → i ≢ k → onto x k v i ≡ x i
 unfolding onto
-onto-other x k v i o = simp (ne_eqb i k o) refl
+onto_other x k v i o = simp (ne_eqb i k o) refl
 
 module _ (g : Drawing) (first : List ℕ) (v met : ℕ) (G : Gone g first v met) where
   -- an event that is marked has had its turn
-  pub gone-marked : Marked first v → Gone g first (v + 1) met
-  gone-marked m = record {
+  pub gone_marked : Marked first v → Gone g first (v + 1) met
+  gone_marked m = record {
     turn = G.turn;
     many = G.many;
     told = G.told;
@@ -55,13 +55,13 @@ module _ (g : Drawing) (first : List ℕ) (v met : ℕ) (G : Gone g first v met)
     next = onto G.turn G.many v
 
     there : next G.many ≡ v
-    there = onto-there G.turn G.many v
+    there = onto_there G.turn G.many v
 
     same : (i : ℕ) → i < G.many → next i ≡ G.turn i
-    same i h = onto-other G.turn G.many v i (λ e. omega arith)
+    same i h = onto_other G.turn G.many v i (λ e. omega arith)
 
     told : Tally g next G.many met
-    told = tally-same g G.turn next G.many met same G.told
+    told = tally_same g G.turn next G.many met same G.told
 
     turns : Turns g next (G.many + 1)
     turns = (
@@ -69,7 +69,7 @@ module _ (g : Drawing) (first : List ℕ) (v met : ℕ) (G : Gone g first v met)
         | yes e ↦ rw (e, there) l
         | no e ↦ rw (same i (omega arith)) (G.turns.0 i (omega arith))
       ],
-      apart-inj (G.many + 1) next (λ i j a b q. elim (ℕ_discrete j G.many) [
+      apart_inj (G.many + 1) next (λ i j a b q. elim (ℕ_discrete j G.many) [
         | yes e ↦
             let old : G.turn i ≡ v = sym (same i (omega arith)) ∙ q ∙ ap next e ∙ there in
             G.only i (omega arith) (omega (arith, old)) (ap (nth first) old ∙ new)
@@ -78,8 +78,8 @@ module _ (g : Drawing) (first : List ℕ) (v met : ℕ) (G : Gone g first v met)
       ]),
     )
 
-    gone-next : (met' : ℕ) → Tally g next (G.many + 1) met' → Gone g first (v + 1) met'
-    gone-next met' T = record {
+    gone_next : (met' : ℕ) → Tally g next (G.many + 1) met' → Gone g first (v + 1) met'
+    gone_next met' T = record {
       turn = next;
       many = G.many + 1;
       told = T;
@@ -99,35 +99,35 @@ module _ (g : Drawing) (first : List ℕ) (v met : ℕ) (G : Gone g first v met)
     }
 
     -- no dart: nothing to follow
-    pub gone-bare : ((d : ℕ) → d < darts g → event g d ≢ v) → Gone g first (v + 1) met
-    gone-bare none = gone-next met (tally-skip g next G.many met told (λ d h q. none d h (q ∙ there)))
+    pub gone_bare : ((d : ℕ) → d < darts g → event g d ≢ v) → Gone g first (v + 1) met
+    gone_bare none = gone_next met (tally_skip g next G.many met told (λ d h q. none d h (q ∙ there)))
 
     module _ (K : Kept g) (d : ℕ) (h : d < darts g) (own : event g d ≡ v) where
       here : event g d ≡ next G.many
       here = own ∙ sym there
 
-      pub gone-ring : (left r : ℕ) → 0 < r → Returned g d left r → Gone g first (v + 1) (met + r)
-      gone-ring left r z W = gone-next (met + r) (tally-ring g next G.many met told K d h here r (W.ring z))
+      pub gone_ring : (left r : ℕ) → 0 < r → Returned g d left r → Gone g first (v + 1) (met + r)
+      gone_ring left r z W = gone_next (met + r) (tally_ring g next G.many met told K d h here r (W.ring z))
 
       -- no return within the darts that are left
-      pub gone-open : EventsKnown g → (left r : ℕ) → r < 1 → darts g ≤ met + left → Returned g d left r → Rings g → ⊥
-      gone-open E left r z enough W = refuse-open g next G.many met told K d h here E turns left enough (W.none z)
+      pub gone_open : EventsKnown g → (left r : ℕ) → r < 1 → darts g ≤ met + left → Returned g d left r → Rings g → ⊥
+      gone_open E left r z enough W = refuse_open g next G.many met told K d h here E turns left enough (W.none z)
 
   -- every event has had its turn: all darts are met exactly if each event's darts are one ring
   module _ (K : Kept g) (E : EventsKnown g) (end : g.events ≤ v) where
     all : sum G.many (λ i. around g (G.turn i)) ≡ darts g
     all = elim (dec_lt (sum G.many (λ i. around g (G.turn i))) (sum g.events (around g))) [
       | yes less ↦
-          let t = along-missed G.many g.events G.turn (around g) G.turns.0 G.turns.1 less in
+          let t = along_missed G.many g.events G.turn (around g) G.turns.0 G.turns.1 less in
           let m = G.each t.0 t.1 (λ k. absurd (omega (arith, t.1))) in
           absurd (t.3 m.0 m.1 m.2)
-      | no most ↦ omega (arith, around-total g E, turns-few g E G.turn G.many G.turns)
+      | no most ↦ omega (arith, around_total g E, turns_few g E G.turn G.many G.turns)
     ]
 
-    pub all-gone : (n : ℕ) → n ≡ darts g → Says (eqb met n) (Rings g)
-    all-gone n q =
-        says-as (eqb met n) (λ e. rings-whole g G.turn G.many met G.told K E G.turns (e ∙ q))
-        (λ R. G.told.exact R ∙ all ∙ sym q) (says-equal met n)
+    pub all_gone : (n : ℕ) → n ≡ darts g → Says (eqb met n) (Rings g)
+    all_gone n q =
+        says_as (eqb met n) (λ e. rings_whole g G.turn G.many met G.told K E G.turns (e ∙ q))
+        (λ R. G.told.exact R ∙ all ∙ sym q) (says_equal met n)
 
 -- ---- one event: the code has its mark as m, and the dart that stands at it as d
 
@@ -138,9 +138,9 @@ module _ (s : List ℕ) (n : ℕ) (S : Shape s n) (K : Kept (drawing s)) (E : Ev
   g = drawing s
 
   module _ (m : ℕ) (got : m ≡ nth first v) where
-    pub pass-marked : m ≢ 65535 → Passed g first (v + 1) met
-    pass-marked h = record {
-      counted = λ a. gone-marked g first v met G (λ e. h (got ∙ e));
+    pub pass_marked : m ≢ 65535 → Passed g first (v + 1) met
+    pass_marked h = record {
+      counted = λ a. gone_marked g first v met G (λ e. h (got ∙ e));
       refused = λ a. absurd (omega (arith, S.darts));
     }
 
@@ -151,9 +151,9 @@ module _ (s : List ℕ) (n : ℕ) (S : Shape s n) (K : Kept (drawing s)) (E : Ev
       new : nth first v ≡ 65535
       new = sym got ∙ h
 
-      pub pass-bare : n ≤ d → Passed g first (v + 1) met
-      pass-bare o = record {
-        counted = λ a. gone-bare g first v met G known new (λ e k r. omega (arith, S.darts, P.each e k, ap (nth some) r));
+      pub pass_bare : n ≤ d → Passed g first (v + 1) met
+      pass_bare o = record {
+        counted = λ a. gone_bare g first v met G known new (λ e k r. omega (arith, S.darts, P.each e k, ap (nth some) r));
         refused = λ a. absurd (omega (arith, S.darts));
       }
 
@@ -164,14 +164,14 @@ module _ (s : List ℕ) (n : ℕ) (S : Shape s n) (K : Kept (drawing s)) (E : Ev
         own : event g d ≡ v
         own = ap (event g) q ∙ P.own v known (omega (arith, inside, q))
 
-        pub pass-open : r < 1 → Passed g first (v + 1) (n + 1)
-        pass-open z = record {
+        pub pass_open : r < 1 → Passed g first (v + 1) (n + 1)
+        pass_open z = record {
           counted = λ a. absurd (omega (arith, S.darts));
-          refused = λ a. gone-open g first v met G known new K d inside own E (n - met) r z (omega (arith, S.darts)) W;
+          refused = λ a. gone_open g first v met G known new K d inside own E (n - met) r z (omega (arith, S.darts)) W;
         }
 
-        pub pass-ring : 0 < r → Passed g first (v + 1) (met + r)
-        pass-ring z = record {
-          counted = λ a. gone-ring g first v met G known new K d inside own (n - met) r z W;
+        pub pass_ring : 0 < r → Passed g first (v + 1) (met + r)
+        pass_ring z = record {
+          counted = λ a. gone_ring g first v met G known new K d inside own (n - met) r z W;
           refused = λ a. absurd (omega (arith, S.darts, W.within));
         }

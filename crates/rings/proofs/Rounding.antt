@@ -10,13 +10,13 @@ use borrow.Author.Count.{below_more}
 use Rattle.finite.specs.Steps.{iter}
 use Rattle.finite.proofs.Walk.{Walk, walk_start, walk-all}
 use Rattle.drawing.specs.Drawing.{Drawing, darts, event, after, twin}
-use Rattle.drawing.proofs.Twins.{twin-into}
-use Rattle.drawing.proofs.Rounds.{Kept, goes-inside, goes-there, after-reach}
+use Rattle.drawing.proofs.Twins.{twin_into}
+use Rattle.drawing.proofs.Rounds.{Kept, goes_inside, goes_there, after_reach}
 use Rattle.rules.specs.Chart.{drawing}
-use Rattle.rules.proofs.Bytes.{darts-even}
+use Rattle.rules.proofs.Bytes.{darts_even}
 use Rattle.rings.specs.Joining.{From, along, Marked, Queued, Ready, Grown, Pushed, Rounded}
-use Rattle.rings.proofs.Laws.{walk-on, walk-back, walk-open}
-use Rattle.rings.proofs.Pushing.{grown-none, grown-more}
+use Rattle.rings.proofs.Laws.{walk_on, walk_back, walk_open}
+use Rattle.rings.proofs.Pushing.{grown_none, grown_more}
 
 pub record Going (g : Drawing) (d : ℕ) (m₀ q₀ : List ℕ) (t₀ : ℕ) (m q : List ℕ) (t k e : ℕ) : Type 0 where
   pub way : Walk (after g) d k e
@@ -35,27 +35,27 @@ module _ {s : List ℕ} {n d : ℕ} {m₀ q₀ : List ℕ} {t₀ : ℕ} (A : Rea
   dart = omega (arith, A.dart, A.ground.shape.darts)
 
   pub begin : Going g d m₀ q₀ t₀ m₀ q₀ t₀ 0 d
-  begin = record { way = walk_start (after g) d; queued = A.queued; grown = grown-none m₀ q₀ t₀; ends = λ i l. absurd (omega arith) }
+  begin = record { way = walk_start (after g) d; queued = A.queued; grown = grown_none m₀ q₀ t₀; ends = λ i l. absurd (omega arith) }
 
   module _ (m q : List ℕ) (t k e : ℕ) (G : Going g d m₀ q₀ t₀ m q t k e) where
     inside : e < darts g
-    inside = rw G.way.here (goes-inside g K k d dart)
+    inside = rw G.way.here (goes_inside g K k d dart)
 
     there : event g e ≡ event g d
-    there = ap (event g) G.way.here ∙ goes-there g K k d dart
+    there = ap (event g) G.way.here ∙ goes_there g K k d dart
 
     pub small : e < n
     small = omega (arith, inside, A.ground.shape.darts)
 
     -- no return within the steps that are left
     pub ended : (left : ℕ) → left ≡ k → Rounded g d left m₀ q₀ t₀ m q t 0
-    ended left o = record { queued = G.queued; grown = G.grown; back = walk-open g d k e G.way left o; ends = λ z. absurd (omega arith) }
+    ended left o = record { queued = G.queued; grown = G.grown; back = walk_open g d k e G.way left o; ends = λ z. absurd (omega arith) }
 
     module _ (x : ℕ) (twins : x ≡ twin e) where
       pub ready : Ready s n x m q t
       ready = record {
         ground = A.ground;
-        dart = omega (arith, twins, twin-into (darts g) (darts-even s) e inside, A.ground.shape.darts);
+        dart = omega (arith, twins, twin_into (darts g) (darts_even s) e inside, A.ground.shape.darts);
         queued = G.queued;
         joined =
             subst (λ (y : ℕ). From g (event g 0) (event g y)) (sym twins)
@@ -72,18 +72,18 @@ module _ {s : List ℕ} {n d : ℕ} {m₀ q₀ : List ℕ} {t₀ : ℕ} (A : Rea
 
         pub turn : e' ≢ d → Going g d m₀ q₀ t₀ m' q' t' (k + 1) e'
         turn o = record {
-          way = walk-on g d k e G.way e' goes o;
+          way = walk_on g d k e G.way e' goes o;
           queued = P.queued;
-          grown = grown-more G.grown P.grown;
+          grown = grown_more G.grown P.grown;
           ends = more;
         }
 
         pub done : e' ≡ d → (left : ℕ) → k + 1 ≤ left → Rounded g d left m₀ q₀ t₀ m' q' t' (k + 1)
         done o left h = record {
           queued = P.queued;
-          grown = grown-more G.grown P.grown;
-          back = walk-back g d k e G.way e' goes o left h;
+          grown = grown_more G.grown P.grown;
+          back = walk_back g d k e G.way e' goes o left h;
           ends = λ z R y l r.
-              let w = walk-all (after g) d k e G.way (sym goes ∙ o) y (after-reach g R d y dart l (sym r)) in
+              let w = walk-all (after g) d k e G.way (sym goes ∙ o) y (after_reach g R d y dart l (sym r)) in
               subst (λ (z : ℕ). Marked m' (event g (twin z))) w.2 (more w.0 (omega (arith, w.1)));
         }

@@ -9,7 +9,7 @@ use borrow.Author.Tests.{eq-eqb, ne_eqb}
 use lib.ListN.{length, set, replicate, length-set, length-replicate, get_or-replicate}
 use lib.Seq.{get_or-set_same, get_or-set_other}
 use Rattle.finite.specs.Sums.{sum, δ, class}
-use Rattle.finite.proofs.Sum.{δ-eq, δ-other}
+use Rattle.finite.proofs.Sum.{δ-eq, δ_other}
 use Rattle.drawing.specs.Drawing.{Drawing, event, enters, leaves, entering, leaving}
 use Rattle.drawing.specs.Conditions.{EventsKnown}
 use Rattle.rules.specs.Chart.{drawing}
@@ -17,7 +17,7 @@ use Rattle.chart.specs.Shape.{Shape}
 use Rattle.chart.specs.Held.{Poled}
 use Rattle.words.specs.Tables.{nth}
 use Rattle.rooms.specs.Flags.{flags, Pole, Flagged, Decided}
-use Rattle.finite.proofs.Tally.{class-more}
+use Rattle.finite.proofs.Tally.{class_more}
 
 pub begin : (g : Drawing) (m : ℕ) (l : List ℕ) → m ≡ g.events → l ≡ replicate m 0 → Flagged g 0 0 l
 unfolding class sum flags
@@ -32,28 +32,28 @@ unfolding class sum
 none g v = refl
 
 -- an arrow more, of whose darts the first leaves and the second enters
-two-leave : (g : Drawing) (v d : ℕ) → d % 2 ≡ 0 → class (d + 2) (event g) leaves v ≡ class d (event g) leaves v + δ (event g d) v
-two-leave g v d z =
+two_leave : (g : Drawing) (v d : ℕ) → d % 2 ≡ 0 → class (d + 2) (event g) leaves v ≡ class d (event g) leaves v + δ (event g d) v
+two_leave g v d z =
     let one : leaves d ≡ 1 = omega arith in
     let zero : leaves (d + 1) ≡ 0 = omega arith in
     let next : d + 2 ≡ d + 1 + 1 = omega arith in
-    rw (next, class-more (event g) leaves v (d + 1), class-more (event g) leaves v d, one, zero) (omega arith)
+    rw (next, class_more (event g) leaves v (d + 1), class_more (event g) leaves v d, one, zero) (omega arith)
 
-two-enter : (g : Drawing) (v d : ℕ) → d % 2 ≡ 0 → class (d + 2) (event g) enters v ≡ class d (event g) enters v + δ (event g (d + 1)) v
-two-enter g v d z =
+two_enter : (g : Drawing) (v d : ℕ) → d % 2 ≡ 0 → class (d + 2) (event g) enters v ≡ class d (event g) enters v + δ (event g (d + 1)) v
+two_enter g v d z =
     let zero : enters d ≡ 0 = omega arith in
     let one : enters (d + 1) ≡ 1 = omega arith in
     let next : d + 2 ≡ d + 1 + 1 = omega arith in
-    rw (next, class-more (event g) enters v (d + 1), class-more (event g) enters v d, one, zero) (omega arith)
+    rw (next, class_more (event g) enters v (d + 1), class_more (event g) enters v d, one, zero) (omega arith)
 
 -- one more arrow that leaves, where none enters yet; one more that enters
-one-leaves : (a b : ℕ) → b ≡ 0 → 1 ≡ flags (a + 1) b
+one_leaves : (a b : ℕ) → b ≡ 0 → 1 ≡ flags (a + 1) b
 unfolding flags
-one-leaves a b z = omega arith
+one_leaves a b z = omega arith
 
-one-enters : (a b : ℕ) → flags a b % 2 + 2 ≡ flags a (b + 1)
+one_enters : (a b : ℕ) → flags a b % 2 + 2 ≡ flags a (b + 1)
 unfolding flags
-one-enters a b = omega arith
+one_enters a b = omega arith
 
 module _ {s : List ℕ} {n : ℕ} (S : Shape s n) (known : EventsKnown (drawing s)) (d : ℕ) (h : d < n) (even : d % 2 ≡ 0) where
   abbrev g : Drawing
@@ -64,23 +64,23 @@ module _ {s : List ℕ} {n : ℕ} (S : Shape s n) (known : EventsKnown (drawing 
   second = omega (arith, S.even)
 
   -- and so the next arrow begins at most at their end
-  pub next-even : (d + 2 ≤ n) × ((d + 2) % 2 ≡ 0)
-  next-even = (omega (arith, S.even), omega arith)
+  pub next_even : (d + 2 ≤ n) × ((d + 2) % 2 ≡ 0)
+  next_even = (omega (arith, S.even), omega arith)
 
   -- the code has the tail as v
   module _ (l : List ℕ) (F : Flagged g d 0 l) (v : ℕ) (at : v ≡ event g d) where
-    pub tail-in : v < length l
-    tail-in = omega (arith, at, known d (omega (arith, S.darts)), F.size)
+    pub tail_in : v < length l
+    tail_in = omega (arith, at, known d (omega (arith, S.darts)), F.size)
 
     pub tail_more : Flagged g (d + 2) 0 (set l v 1)
     tail_more = record {
       size = length-set l v 1 ∙ F.size;
-      each = λ u k. rw (two-leave g u d even) elim (ℕ_discrete u v) [
+      each = λ u k. rw (two_leave g u d even) elim (ℕ_discrete u v) [
         | yes e ↦
-            rw (e, δ-eq (event g d) v (sym at), get_or-set_same l v 1 0 tail-in)
-            (one-leaves (class d (event g) leaves v) (class 0 (event g) enters v) (none g v))
+            rw (e, δ-eq (event g d) v (sym at), get_or-set_same l v 1 0 tail_in)
+            (one_leaves (class d (event g) leaves v) (class 0 (event g) enters v) (none g v))
         | no e ↦
-            rw (δ-other (event g d) u (λ r. e (sym (at ∙ r))), get_or-set_other l v u 1 0 e)
+            rw (δ_other (event g d) u (λ r. e (sym (at ∙ r))), get_or-set_other l v u 1 0 e)
             (F.each u k ∙ ap (λ (a : ℕ). flags a (class 0 (event g) enters u)) (omega arith))
       ];
     }
@@ -96,12 +96,12 @@ module _ {s : List ℕ} {n : ℕ} (S : Shape s n) (known : EventsKnown (drawing 
     pub head_more : (x : ℕ) → x ≡ nth l v → Flagged g n (d + 2) (set l v (x % 2 + 2))
     head_more x got = record {
       size = length-set l v (x % 2 + 2) ∙ F.size;
-      each = λ u k. rw (two-enter g u d even) elim (ℕ_discrete u v) [
+      each = λ u k. rw (two_enter g u d even) elim (ℕ_discrete u v) [
         | yes e ↦
             rw (e, δ-eq (event g (d + 1)) v (sym at), get_or-set_same l v (x % 2 + 2) 0 head_in)
-            (ap (λ (y : ℕ). y % 2 + 2) (got ∙ F.each v inside) ∙ one-enters (class n (event g) leaves v) (class d (event g) enters v))
+            (ap (λ (y : ℕ). y % 2 + 2) (got ∙ F.each v inside) ∙ one_enters (class n (event g) leaves v) (class d (event g) enters v))
         | no e ↦
-            rw (δ-other (event g (d + 1)) u (λ r. e (sym (at ∙ r))), get_or-set_other l v u (x % 2 + 2) 0 e)
+            rw (δ_other (event g (d + 1)) u (λ r. e (sym (at ∙ r))), get_or-set_other l v u (x % 2 + 2) 0 e)
             (F.each u k ∙ ap (flags (class n (event g) leaves u)) (omega arith))
       ];
     }
@@ -112,9 +112,9 @@ pub both : (x : ℕ) → x ≡ 3 → Pole x 0
 unfolding Pole flags
 both x e a b q = rw (ne_eqb b 0 (λ z. omega (arith, z)), ne_eqb a 0 (λ z. omega (arith, z))) refl
 
-pub not-both : (x : ℕ) → x ≢ 3 → Pole x 1
+pub not_both : (x : ℕ) → x ≢ 3 → Pole x 1
 unfolding Pole flags
-not-both x d a b q = elim (ℕ_discrete b 0) [
+not_both x d a b q = elim (ℕ_discrete b 0) [
   | yes e ↦ rw (eq-eqb b 0 e) refl
   | no e ↦ elim (ℕ_discrete a 0) [ yes z ↦ rw (ne_eqb b 0 e, eq-eqb a 0 z) refl | no z ↦ absurd (omega arith) ]
 ]
@@ -122,8 +122,8 @@ not-both x d a b q = elim (ℕ_discrete b 0) [
 pub undecided : (l : List ℕ) → Decided 0 l l
 undecided l = record { size = refl; done = λ u h. absurd (omega arith); rest = λ u h. refl }
 
-pub decided-more : (v : ℕ) (l m : List ℕ) → Decided v l m → v < length m → (x y : ℕ) → x ≡ nth m v → Pole x y → Decided (v + 1) l (set m v y)
-decided-more v l m D h x y got p = record {
+pub decided_more : (v : ℕ) (l m : List ℕ) → Decided v l m → v < length m → (x y : ℕ) → x ≡ nth m v → Pole x y → Decided (v + 1) l (set m v y)
+decided_more v l m D h x y got p = record {
   size = length-set m v y ∙ D.size;
   done = λ u k. elim (ℕ_discrete u v) [
     | yes e ↦ rw (e, get_or-set_same m v y 0 h) (rw (got ∙ D.rest v (omega arith)) at p)

@@ -15,26 +15,26 @@ unfolding words
 words-length s i zero = refl
 words-length s i (suc n) = ap suc (words-length s (i + 2) n)
 
-pub words-at : (s : List ℕ) (i n d : ℕ) → d < n → get_or (words s i n) d 0 ≡ u16 s (i + 2 * d)
+pub words_at_lem : (s : List ℕ) (i n d : ℕ) → d < n → get_or (words s i n) d 0 ≡ u16 s (i + 2 * d)
 unfolding words
-words-at s i zero d h = absurd (not-suc-le-zero h)
-words-at s i (suc n) zero h = ap (u16 s) (omega arith)
-words-at s i (suc n) (suc d) h = words-at s (i + 2) n d (le_of_suc-le-suc h) ∙ ap (u16 s) (omega arith)
+words_at_lem s i zero d h = absurd (not-suc-le-zero h)
+words_at_lem s i (suc n) zero h = ap (u16 s) (omega arith)
+words_at_lem s i (suc n) (suc d) h = words_at_lem s (i + 2) n d (le_of_suc-le-suc h) ∙ ap (u16 s) (omega arith)
 
 pub darts-drawing : (s : List ℕ) → darts (drawing s) ≡ 2 * arrows_in s
 unfolding drawing
 darts-drawing s = words-length s 11 (2 * arrows_in s)
 
-pub darts-even : (s : List ℕ) → darts (drawing s) % 2 ≡ 0
-darts-even s = omega (arith, darts-drawing s)
+pub darts_even : (s : List ℕ) → darts (drawing s) % 2 ≡ 0
+darts_even s = omega (arith, darts-drawing s)
 
 pub event-drawing : (s : List ℕ) (d : ℕ) → d < 2 * arrows_in s → event (drawing s) d ≡ u16 s (11 + 2 * d)
 unfolding drawing
-event-drawing s d h = words-at s 11 (2 * arrows_in s) d h
+event-drawing s d h = words_at_lem s 11 (2 * arrows_in s) d h
 
 pub after-drawing : (s : List ℕ) (d : ℕ) → d < 2 * arrows_in s → after (drawing s) d ≡ u16 s (11 + 4 * arrows_in s + 2 * d)
 unfolding drawing
-after-drawing s d h = words-at s (11 + 4 * arrows_in s) (2 * arrows_in s) d h
+after-drawing s d h = words_at_lem s (11 + 4 * arrows_in s) (2 * arrows_in s) d h
 
 -- ---- a drawing is read back from its chart
 

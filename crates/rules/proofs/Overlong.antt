@@ -1,16 +1,16 @@
 -- A chart over the limit gets 1 to 5, by its first 11 bytes; so what the listing program does not read cannot matter. Assumes nothing.
 --   longest          the bytes of the longest chart, 11 + 8A for 3,072 arrows
 --   within           a chart with counts and length as they should be is no longer
---   overlong-five    so a longer one whose counts pass has a wrong length
---   overlong-given   and gets 5
---   overlong-number  a longer one gets one of 1 to 5 in any case
+--   overlong_five    so a longer one whose counts pass has a wrong length
+--   overlong_given   and gets 5
+--   overlong_number  a longer one gets one of 1 to 5 in any case
 --   Alike s t        two charts over the limit with the same first 11 bytes
---   alike-given      they get the same number
+--   alike_given      they get the same number
 --   read_whole       a chart of the right length is read whole
---   read-or-alike    every chart is, or is alike to what is read of it
---   one-over         what is read is at most one byte over the limit
---   cut-given        the number of a chart is the number of what is read of it
---   given-cut        and the other way round
+--   read_or_alike    every chart is, or is alike to what is read of it
+--   one_over         what is read is at most one byte over the limit
+--   cut_given        the number of a chart is the number of what is read of it
+--   given_cut        and the other way round
 use mathlib.Core.Path.{◌≡◌, refl, sym, ap, subst, ◌∙◌}
 use mathlib.Core.Logic.{◌⊎◌, inl, inr, ⊎_elim}
 use mathlib.Core.List.{List, [], ◌∷◌}
@@ -22,7 +22,7 @@ use lib.Seq.{get_or-take, take-take, take_all, length-take-le}
 use Rattle.rules.specs.Words.{u16}
 use Rattle.rules.specs.Tests.{Passes, Given, short, mark, version, counts, size, tests}
 use Rattle.rules.specs.Listing.{input_room}
-use Rattle.rules.proofs.Chain.{given-first, given-append, given-parts}
+use Rattle.rules.proofs.Chain.{given_first, given_append, given_parts}
 
 -- "Length is exactly 11 + 8A, at most 24,587."
 abbrev pub longest : ℕ
@@ -33,23 +33,23 @@ pub within : (s : List ℕ) (r : ℕ) → Passes counts s r → Passes size s r 
 within s r c e = omega (arith, c.3, e)
 
 -- "so that an overlong chart gets 5": once its counts pass, its length does not
-pub overlong-five : (s : List ℕ) (r : ℕ) → longest < length s → Passes counts s r → ¬ Passes size s r
-overlong-five s r h c e = omega (arith, h, within s r c e)
+pub overlong_five : (s : List ℕ) (r : ℕ) → longest < length s → Passes counts s r → ¬ Passes size s r
+overlong_five s r h c e = omega (arith, h, within s r c e)
 
-pub overlong-given : (s : List ℕ) (r : ℕ) → longest < length s → Given (short ∷ mark ∷ version ∷ counts ∷ []) s r 0 → Given tests s r 5
-overlong-given s r h g =
-    let c = (given-parts (short ∷ mark ∷ version ∷ []) (counts ∷ []) s r g).1 in
-    given-append (short ∷ mark ∷ version ∷ counts ∷ []) (drop 4 tests) s r 5 g
-    (inl (overlong-five s r h (given-first counts [] s r c).0, refl))
+pub overlong_given : (s : List ℕ) (r : ℕ) → longest < length s → Given (short ∷ mark ∷ version ∷ counts ∷ []) s r 0 → Given tests s r 5
+overlong_given s r h g =
+    let c = (given_parts (short ∷ mark ∷ version ∷ []) (counts ∷ []) s r g).1 in
+    given_append (short ∷ mark ∷ version ∷ counts ∷ []) (drop 4 tests) s r 5 g
+    (inl (overlong_five s r h (given_first counts [] s r c).0, refl))
 
 -- it gets no number but 1 to 5
-pub overlong-number : (s : List ℕ) (r n : ℕ) → longest < length s → Given tests s r n → (1 ≤ n) × (n ≤ 5)
-overlong-number s r n h (inl x) = (omega (arith, x.1), omega (arith, x.1))
-overlong-number s r n h (inr (_, inl x)) = (omega (arith, x.1), omega (arith, x.1))
-overlong-number s r n h (inr (_, inr (_, inl x))) = (omega (arith, x.1), omega (arith, x.1))
-overlong-number s r n h (inr (_, inr (_, inr (_, inl x)))) = (omega (arith, x.1), omega (arith, x.1))
-overlong-number s r n h (inr (_, inr (_, inr (_, inr (c, inl x))))) = (omega (arith, x.1), omega (arith, x.1))
-overlong-number s r n h (inr (_, inr (_, inr (_, inr (c, inr x))))) = absurd (overlong-five s r h c x.0)
+pub overlong_number : (s : List ℕ) (r n : ℕ) → longest < length s → Given tests s r n → (1 ≤ n) × (n ≤ 5)
+overlong_number s r n h (inl x) = (omega (arith, x.1), omega (arith, x.1))
+overlong_number s r n h (inr (_, inl x)) = (omega (arith, x.1), omega (arith, x.1))
+overlong_number s r n h (inr (_, inr (_, inl x))) = (omega (arith, x.1), omega (arith, x.1))
+overlong_number s r n h (inr (_, inr (_, inr (_, inl x)))) = (omega (arith, x.1), omega (arith, x.1))
+overlong_number s r n h (inr (_, inr (_, inr (_, inr (c, inl x))))) = (omega (arith, x.1), omega (arith, x.1))
+overlong_number s r n h (inr (_, inr (_, inr (_, inr (c, inr x))))) = absurd (overlong_five s r h c x.0)
 
 -- ---- two charts over the limit
 
@@ -70,14 +70,14 @@ module _ {s t : List ℕ} (a : Alike s t) where
   unfolding u16
   same_word i h = omega (arith, same_byte i (omega arith), same_byte (i + 1) (omega arith))
 
-  mark-alike : (r : ℕ) → Passes mark s r → Passes mark t r
-  mark-alike r p = (omega (arith, a.too), sym (take-take 3 11 t (omega arith)) ∙ sym (ap (take 3) a.front) ∙ take-take 3 11 s (omega arith) ∙ p.1)
+  mark_alike : (r : ℕ) → Passes mark s r → Passes mark t r
+  mark_alike r p = (omega (arith, a.too), sym (take-take 3 11 t (omega arith)) ∙ sym (ap (take 3) a.front) ∙ take-take 3 11 s (omega arith) ∙ p.1)
 
-  version-alike : (r : ℕ) → Passes version s r → Passes version t r
-  version-alike r p = sym (same_word 3 (omega arith)) ∙ p
+  version_alike : (r : ℕ) → Passes version s r → Passes version t r
+  version_alike r p = sym (same_word 3 (omega arith)) ∙ p
 
-  counts-alike : (r : ℕ) → Passes counts s r → Passes counts t r
-  counts-alike r p =
+  counts_alike : (r : ℕ) → Passes counts s r → Passes counts t r
+  counts_alike r p =
       let v = same_word 5 (omega arith) in
       let w = same_word 7 (omega arith) in
       (omega (arith, v, p.0), omega (arith, v, p.1), omega (arith, w, p.2), omega (arith, w, p.3))
@@ -87,14 +87,14 @@ together : {P P' Q Q' : Type 0} {n k : ℕ} → (P → P') → (P' → P) → (P
 together f g h (inl x) = inl (λ p. x.0 (g p), x.1)
 together f g h (inr x) = inr (f x.0, h x.0 x.1)
 
-pub alike-given : (s t : List ℕ) (r n : ℕ) → Alike s t → Given tests s r n → Given tests t r n
-alike-given s t r n a =
+pub alike_given : (s t : List ℕ) (r n : ℕ) → Alike s t → Given tests s r n → Given tests t r n
+alike_given s t r n a =
     let b = alike_turned a in
     together (λ p. p) (λ p. p) (λ _.
-    together (mark-alike a r) (mark-alike b r) (λ _.
-    together (version-alike a r) (version-alike b r) (λ _.
-    together (counts-alike a r) (counts-alike b r) (λ c.
-    ⊎_elim (λ x. inl (overlong-five t r a.too (counts-alike a r c), x.1)) (λ x. absurd (overlong-five s r a.long c x.0))))))
+    together (mark_alike a r) (mark_alike b r) (λ _.
+    together (version_alike a r) (version_alike b r) (λ _.
+    together (counts_alike a r) (counts_alike b r) (λ c.
+    ⊎_elim (λ x. inl (overlong_five t r a.too (counts_alike a r c), x.1)) (λ x. absurd (overlong_five s r a.long c x.0))))))
 
 -- ---- what is read
 
@@ -103,8 +103,8 @@ pub read_whole : (s : List ℕ) (r : ℕ) → Passes counts s r → Passes size 
 read_whole s r c e = take_all input_room s (omega (arith, within s r c e))
 
 -- every chart is read whole, or both it and what is read are over the limit
-pub read-or-alike : (s : List ℕ) → (take input_room s ≡ s) ⊎ Alike s (take input_room s)
-read-or-alike s = elim (dec_le (length s) input_room) [
+pub read_or_alike : (s : List ℕ) → (take input_room s ≡ s) ⊎ Alike s (take input_room s)
+read_or_alike s = elim (dec_le (length s) input_room) [
   | yes h ↦ inl (take_all input_room s h)
   | no h ↦ inr (record {
     long = omega (arith, h);
@@ -114,14 +114,14 @@ read-or-alike s = elim (dec_le (length s) input_room) [
 ]
 
 -- what is read is "one over the limit"
-pub one-over : input_room ≡ longest + 1
-one-over = refl
+pub one_over : input_room ≡ longest + 1
+one_over = refl
 
 -- so what is cut off does not matter: the number is the same
-pub cut-given : (s : List ℕ) (r n : ℕ) → Given tests s r n → Given tests (take input_room s) r n
-cut-given s r n g =
-    ⊎_elim (λ e. subst (λ (l : List ℕ). Given tests l r n) (sym e) g) (λ a. alike-given s (take input_room s) r n a g) (read-or-alike s)
+pub cut_given : (s : List ℕ) (r n : ℕ) → Given tests s r n → Given tests (take input_room s) r n
+cut_given s r n g =
+    ⊎_elim (λ e. subst (λ (l : List ℕ). Given tests l r n) (sym e) g) (λ a. alike_given s (take input_room s) r n a g) (read_or_alike s)
 
-pub given-cut : (s : List ℕ) (r n : ℕ) → Given tests (take input_room s) r n → Given tests s r n
-given-cut s r n g =
-    ⊎_elim (λ e. subst (λ (l : List ℕ). Given tests l r n) e g) (λ a. alike-given (take input_room s) s r n (alike_turned a) g) (read-or-alike s)
+pub given_cut : (s : List ℕ) (r n : ℕ) → Given tests (take input_room s) r n → Given tests s r n
+given_cut s r n g =
+    ⊎_elim (λ e. subst (λ (l : List ℕ). Given tests l r n) e g) (λ a. alike_given (take input_room s) s r n (alike_turned a) g) (read_or_alike s)

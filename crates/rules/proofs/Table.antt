@@ -13,7 +13,7 @@
 --   Holds          the statement that a row makes
 --   shown          a row's proof, where computing finds it
 --   table          the rows
---   table-holds    every row holds
+--   table_holds    every row holds
 use mathlib.Core.Path.{◌≡◌}
 use mathlib.Core.Bool.{Bool, true, false, ◌&&◌}
 use mathlib.Core.List.{List, [], ◌∷◌, ◌++◌, map}
@@ -26,7 +26,7 @@ use lib.IntN.{ℤ, pos, negsuc}
 use Rattle.finite.specs.Sums.{sum, δ, class, below}
 use Rattle.finite.specs.Steps.{iter, least, lowest}
 use Rattle.finite.specs.Lists.{sumℤ}
-use Rattle.finite.proofs.Decide.{is_yes, is-yes, both_left, both_right, map?, ◌×?◌, ¬?, eq?, eqℤ?, same?, same-ℤ?}
+use Rattle.finite.proofs.Decide.{is_yes, is_yes_lem, both_left, both_right, map?, ◌×?◌, ¬?, eq?, eqℤ?, same?, same_ℤ?}
 use Rattle.drawing.specs.Drawing.{Drawing, darts, is_face, twin, face, face_list, faces, corners, switches, room}
 use Rattle.drawing.specs.Drawing.{entering, leaving, changes, mixed_events, touches}
 use Rattle.drawing.specs.Conditions.{larges, labels, room_of}
@@ -35,7 +35,7 @@ use Rattle.rules.specs.Chart.{drawing, charted}
 use Rattle.rules.specs.Report.{Entries, report, Form, good, bad, is_well_formed, form, body_start, body, entries}
 use Rattle.rules.specs.Judge.{Verdict, chart, J, fits, Judged}
 use Rattle.rules.specs.Listing.{ascii, each, listing}
-use Rattle.rules.proofs.Trying.{entries?, form?, Right, right, right-law, fair, fair-law}
+use Rattle.rules.proofs.Trying.{entries?, form?, Right, right, right_law, fair, fair_law}
 
 -- the faces that the event v touches, in number order
 unfoldable pub faces_of : Drawing → ℕ → List ℕ
@@ -263,16 +263,16 @@ by true f = some (f tt)
 by false f = none
 
 abbrev decided : {A : Type 0} → Dec A → Option A
-decided d = by (is_yes d) (is-yes d)
+decided d = by (is_yes d) (is_yes_lem d)
 
 shown : (w : Row) → Option (Holds w)
-unfolding right fair entries? form? eq? same-ℤ? faces_of
-shown (lent s r n l) = by (right s r n l) (right-law s r n l)
+unfolding right fair entries? form? eq? same_ℤ? faces_of
+shown (lent s r n l) = by (right s r n l) (right_law s r n l)
 shown (barred s n l) = decided (¬? (entries? (drawing s) n l))
-shown (judge s r v) = by (fair s r [] v) (fair-law s r [] v)
+shown (judge s r v) = by (fair s r [] v) (fair_law s r [] v)
 shown (has s k) = decided (eq? (faces (drawing s)) k)
-shown (rooms s z) = decided (same-ℤ? (map (room (drawing s)) (face_list (drawing s))) z)
-shown (touching s v z) = decided (same-ℤ? (map (room (drawing s)) (faces_of (drawing s) v)) z)
+shown (rooms s z) = decided (same_ℤ? (map (room (drawing s)) (face_list (drawing s))) z)
+shown (touching s v z) = decided (same_ℤ? (map (room (drawing s)) (faces_of (drawing s) v)) z)
 shown (together s l z) = decided (eqℤ? (room_of (drawing s) l) z)
 shown (spelt b l) = decided (same? b l)
 shown (writes n l w) = decided (eq? (length (report n l)) w)
@@ -284,21 +284,21 @@ is_some : {A : Type 0} → Option A → Bool
 is_some none = false
 is_some (some a) = true
 
-some-law : {A : Type 0} (o : Option A) → T (is_some o) → A
+some_law : {A : Type 0} (o : Option A) → T (is_some o) → A
 unfolding is_some
-some-law none t = absurd t
-some-law (some a) t = a
+some_law none t = absurd t
+some_law (some a) t = a
 
 checks : List Row → Bool
 unfolding shown is_some
 checks [] = true
 checks (w ∷ ws) = is_some (shown w) && checks ws
 
-checks-law : (ws : List Row) → T (checks ws) → Hold ws
+checks_law : (ws : List Row) → T (checks ws) → Hold ws
 unfolding checks
-checks-law [] t = tt
-checks-law (w ∷ ws) t =
-    (some-law (shown w) (both_left (is_some (shown w)) (checks ws) t), checks-law ws (both_right (is_some (shown w)) (checks ws) t))
+checks_law [] t = tt
+checks_law (w ∷ ws) t =
+    (some_law (shown w) (both_left (is_some (shown w)) (checks ws) t), checks_law ws (both_right (is_some (shown w)) (checks ws) t))
 
 -- the one computed test
 passed : T (checks table)
@@ -306,5 +306,5 @@ unfolding checks table drawing u16 words sum δ class below iter least lowest tw
     entering leaving changes mixed_events touches larges labels sumℤ room_of is_well_formed form body entries fits listing
 passed = tt
 
-pub table-holds : Hold table
-table-holds = checks-law table passed
+pub table_holds : Hold table
+table_holds = checks_law table passed

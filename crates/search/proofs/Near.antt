@@ -13,11 +13,11 @@ use Rattle.search.specs.Steps.{Near, Sits}
 pub near_none : {g : Drawing} {here sp : List ℕ} {first : ℕ} → Near g here sp first 65535
 near_none = record { inside = λ l. absurd (omega arith); own = λ l. absurd (omega arith); room = λ l. absurd (omega arith) }
 
-pub near-some : {g : Drawing} {here sp : List ℕ} {first c f a : ℕ} → c < darts g → event g c ≡ event g first → f ≡ nth here c → a ≡ nth sp f → 1 ≤ a → Near g here sp first c
-near-some {sp = sp} i o e r h = record { inside = λ l. i; own = λ l. o; room = λ l. omega (arith, r, ap (nth sp) e) }
+pub near_some : {g : Drawing} {here sp : List ℕ} {first c f a : ℕ} → c < darts g → event g c ≡ event g first → f ≡ nth here c → a ≡ nth sp f → 1 ≤ a → Near g here sp first c
+near_some {sp = sp} i o e r h = record { inside = λ l. i; own = λ l. o; room = λ l. omega (arith, r, ap (nth sp) e) }
 
-pub sits-seat : {s : List ℕ} {n : ℕ} {here L sp : List ℕ} {e c f : ℕ} → Sits s n here L sp e c → f ≡ nth here c → Seat (drawing s) here L sp e c f
-sits-seat {sp = sp} S q = record {
+pub sits_seat : {s : List ℕ} {n : ℕ} {here L sp : List ℕ} {e c f : ℕ} → Sits s n here L sp e c → f ≡ nth here c → Seat (drawing s) here L sp e c f
+sits_seat {sp = sp} S q = record {
   board = S.reads.board;
   valid = S.valid;
   inside = omega (arith, S.inside, S.reads.shape.darts);

@@ -15,8 +15,8 @@ module _ (s : List ℕ) (at : ℕ) where
     within = omega arith;
   }
 
-  pub an-end : (e : ℕ) → e ≡ at + 2 + u16 s at → e ≤ length s → Ends s at e
-  an-end e q h =
+  pub an_end : (e : ℕ) → e ≡ at + 2 + u16 s at → e ≤ length s → Ends s at e
+  an_end e q h =
       let l : at + 2 + u16 s at ≤ length s = omega arith in
       record {
         end = rw (le-leb (at + 2 + u16 s at) (length s) l) q;

@@ -20,8 +20,8 @@ use Rattle.streams.specs.declared.Step.TheVariants.{On, Done}
 use Rattle.streams.specs.Counted.{Within}
 use Rattle.streams.specs.Answers.{Moved, Fitting, step_of}
 
-pub came-within : (r : Input) (at k n : ℕ) → r ≡ Bytes k → Within at r n → at + k ≤ n
-came-within r at k n e w = subst (λ (i : Input). Within at i n) e w
+pub came_within : (r : Input) (at k n : ℕ) → r ≡ Bytes k → Within at r n → at + k ≤ n
+came_within r at k n e w = subst (λ (i : Input). Within at i n) e w
 
 pub back : (n : ℕ) (z : ℤ) → mag z < 2 ^ 63 → Moved n z → Moved n (to_z w64 (of_z w64 z))
 back n z f m = rw (to_z-of_z w64 z (record { sfits = f })) m

@@ -1,6 +1,6 @@
 -- How the listing program ends, by what came and by the writer's answer. Assumes nothing.
 --   unread, answered     a read that failed; bytes that came
---   from-input           what came lay within the room of the listing program
+--   from_input           what came lay within the room of the listing program
 use mathlib.Core.Path.{◌≡◌, refl, sym, subst}
 use mathlib.Core.Bool.{Bool}
 use mathlib.Core.List.{List}
@@ -26,5 +26,5 @@ module _ (came : Input) (s o o' : List ℕ) where
   answered n b e q w r =
       subst (λ (i : Input). Ended i s o o' e) (sym q) record { answer = b; written = subst (λ (k : ℕ). Written (take k s) o o' b) (sub-zero n) w; ending = r }
 
-  pub from-input : (n : ℕ) (e : Ending) → n ≡ input_room → listing_room ≤ length o → Within 0 came n → Ended came s o o' e → FromInput s o o' e
-  from-input n e q h w d = record { came = came; within = subst (Within 0 came) q w; enough = h; ended = d }
+  pub from_input : (n : ℕ) (e : Ending) → n ≡ input_room → listing_room ≤ length o → Within 0 came n → Ended came s o o' e → FromInput s o o' e
+  from_input n e q h w d = record { came = came; within = subst (Within 0 came) q w; enough = h; ended = d }

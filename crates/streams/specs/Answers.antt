@@ -1,8 +1,8 @@
 -- What the system's answers mean. Assumes nothing.
 --   standard_input, standard_output    the two descriptors that the programs use
---   Moved n got                      what a call that is handed n bytes may answer: -1, or how many bytes it moved, at most n
---   Fitting at got                   at + got is a number of 64 bits, where got is not negative
---   step_of at got                    what the answer got of a read means where at bytes had come
+--   Moved n got                        what a call that is handed n bytes may answer: -1, or how many bytes it moved, at most n
+--   Fitting at got                     at + got is a number of 64 bits, where got is not negative
+--   step_of at got                     what the answer got of a read means where at bytes had come
 use Rattle.std.specs.Prelude.{ℕ, zero, suc, ◌≡◌, ◌+◌, ◌<◌, ◌≤◌, ◌^◌, ℤ, pos, negsuc}
 use Rattle.streams.specs.declared.Input.TheVariants.{Bytes, Failed}
 use Rattle.streams.specs.declared.Step.{Step}

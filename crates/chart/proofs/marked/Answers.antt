@@ -1,6 +1,6 @@
 -- `chart::marked` meets its contract: each return names the byte that differs, or all three are the mark. Assumes nothing.
 use mathlib.Core.List.{[], ◌∷◌}
-use Rattle.chart.proofs.Mark.{take-three, take_at}
+use Rattle.chart.proofs.Mark.{take_three, take_at}
 use native.Mathlib.Omega.{arith}
 use borrow.Author.Rules.{rules}
 use Rattle.chart.proofs.marked.Goals as goal
@@ -15,4 +15,4 @@ pub returns-then-chart-ne67 : goal.returns-then-chart-ne67
 returns-then-chart-ne67 c = λ m. c.if-chart-ne67.true (take_at 3 c.args.chart.now (69 ∷ 86 ∷ 67 ∷ []) 2 (omega arith) m.1)
 
 pub returns : goal.returns
-returns c = (search rules, take-three c.args.chart.now 69 86 67 (search rules) c.if-chart-ne69.false c.if-chart-ne86.false c.if-chart-ne67.false)
+returns c = (search rules, take_three c.args.chart.now 69 86 67 (search rules) c.if-chart-ne69.false c.if-chart-ne86.false c.if-chart-ne67.false)

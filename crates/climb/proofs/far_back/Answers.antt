@@ -2,11 +2,11 @@
 use native.Mathlib.Omega.{arith}
 use borrow.Author.Rules.{rules}
 use Rattle.rules.specs.Chart.{drawing}
-use Rattle.climb.proofs.Backs.{way-start, way_at, way_next, far}
+use Rattle.climb.proofs.Backs.{way_start, way_at, way_next, far}
 use Rattle.climb.proofs.far_back.Goals as goal
 
 pub loop-i-init : goal.loop-i-init
-loop-i-init c = (search rules, way-start (drawing c.args.chart.now) c.args.into.now _)
+loop-i-init c = (search rules, way_start (drawing c.args.chart.now) c.args.into.now _)
 
 pub back-v-requires : goal.back-v-requires
 back-v-requires c =

@@ -5,7 +5,7 @@ use native.Mathlib.Omega.{arith}
 use Rattle.finite.proofs.Filled.{lent}
 use Rattle.survey.specs.Past.{order_tests}
 use Rattle.survey.proofs.Passing.{at_zero}
-use Rattle.desk.proofs.Running.{order-run, past-run}
+use Rattle.desk.proofs.Running.{order_run, past_run}
 use borrow.Author.Rules.{rules}
 use Rattle.desk.proofs.drawn_small.Goals as goal
 use Rattle.desk.proofs.drawn_small.Goals.{Else-fault-ge1}
@@ -16,7 +16,7 @@ zero c = omega (arith, c.if-fault-ge1.false)
 pub returns-then-fault-ge1 : goal.returns-then-fault-ge1
 returns-then-fault-ge1 c =
     let f = c.order_fault-fault in
-    order-run _ _ _ (λ e. omega (arith, c.if-fault-ge1.true)) f.ensures.given
+    order_run _ _ _ (λ e. omega (arith, c.if-fault-ge1.true)) f.ensures.given
 
 pub test_later-requires : goal.test_later-requires
 test_later-requires c =
@@ -24,4 +24,4 @@ test_later-requires c =
     let R = c.order_fault-fault.ensures in record { formed = (p.formed.0, at_zero order_tests _ _ (zero (goal.at.test_later-requires c).Else-fault-ge1) R.given, R.firsts (zero (goal.at.test_later-requires c).Else-fault-ge1), p.formed.1); here_value = (lent 1024 _ 65535 p.formed.2, c.list-1.given ∙ p.first_value.1, lent 256 _ 0 p.formed.3, search rules) }
 
 pub returns : goal.returns
-returns c = past-run _ _ _ _ _ _ (zero (goal.at.returns c).Else-fault-ge1) c.order_fault-fault.ensures.given c.test_later.ensures
+returns c = past_run _ _ _ _ _ _ (zero (goal.at.returns c).Else-fault-ge1) c.order_fault-fault.ensures.given c.test_later.ensures

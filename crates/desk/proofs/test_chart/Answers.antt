@@ -2,24 +2,24 @@
 use mathlib.Core.Logic.{◌≢◌}
 use native.Mathlib.Omega.{arith}
 use Rattle.chart.specs.Form.{form_tests}
-use Rattle.survey.proofs.Entry.{form-none, form-shape, form-length, form-formed}
+use Rattle.survey.proofs.Entry.{form-none, form_shape, form-length, form-formed}
 use Rattle.desk.specs.Stretch.{drawn_tests}
-use Rattle.findings.proofs.Running.{silent-run, run-before, run-after}
-use Rattle.desk.proofs.Running.{form_small, room-outcome, short-outcome}
+use Rattle.findings.proofs.Running.{silent_run, run_before, run_after}
+use Rattle.desk.proofs.Running.{form_small, room_outcome, short_outcome}
 use Rattle.desk.proofs.test_chart.Goals as goal
 
 pub returns-then-report-lt6152 : goal.returns-then-report-lt6152
-returns-then-report-lt6152 c = short-outcome _ _ (omega (arith, c.if-report-lt6152.true))
+returns-then-report-lt6152 c = short_outcome _ _ (omega (arith, c.if-report-lt6152.true))
 
 pub returns-then-fault-ge1 : goal.returns-then-fault-ge1
 returns-then-fault-ge1 c =
     let f = c.form_fault-fault in
     let some : f.result ≢ 0 = λ e. omega (arith, c.if-fault-ge1.true) in
-    room-outcome _ _ _ _ _ (omega (arith, c.if-report-lt6152.false))
-    (run-before form_tests drawn_tests _ _ _ _ _ some (silent-run form_tests _ _ _ f.ensures some (omega (arith, form_small _ _ f.ensures))))
+    room_outcome _ _ _ _ _ (omega (arith, c.if-report-lt6152.false))
+    (run_before form_tests drawn_tests _ _ _ _ _ some (silent_run form_tests _ _ _ f.ensures some (omega (arith, form_small _ _ f.ensures))))
 
 pub dart_count-n-requires : goal.dart_count-n-requires
-dart_count-n-requires c = let f = c.form_fault-fault in form-shape c.args.chart.now f.result (omega (arith, c.if-fault-ge1.false)) f.ensures
+dart_count-n-requires c = let f = c.form_fault-fault in form_shape c.args.chart.now f.result (omega (arith, c.if-fault-ge1.false)) f.ensures
 
 pub event_count-v-requires : goal.event_count-v-requires
 event_count-v-requires c = let f = c.form_fault-fault in form-length c.args.chart.now f.result (omega (arith, c.if-fault-ge1.false)) f.ensures
@@ -35,4 +35,4 @@ pub returns : goal.returns
 returns c =
     let f = c.form_fault-fault in
     let good = form-none c.args.chart.now f.result (omega (arith, c.if-fault-ge1.false)) f.ensures in
-    room-outcome _ _ _ _ _ (omega (arith, c.if-report-lt6152.false)) (run-after form_tests drawn_tests _ _ _ _ _ good c.test_sized-found.ensures)
+    room_outcome _ _ _ _ _ (omega (arith, c.if-report-lt6152.false)) (run_after form_tests drawn_tests _ _ _ _ _ good c.test_sized-found.ensures)

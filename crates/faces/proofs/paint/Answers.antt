@@ -1,6 +1,6 @@
 -- `faces::paint` meets its contract: the walk from d meets each dart of the face, and writes and counts the corner at its far end. Assumes nothing.
 use native.Mathlib.Omega.{arith}
-use Rattle.faces.proofs.Painting.{start, small, far, far-in, few, beyond, step, falls, done, all-switches}
+use Rattle.faces.proofs.Painting.{start, small, far, far_in, few, beyond, step, falls, done, all-switches}
 use Rattle.faces.proofs.paint.Goals as goal
 
 pub loop-e-init : goal.loop-e-init
@@ -10,7 +10,7 @@ pub twin-c-requires : goal.twin-c-requires
 twin-c-requires c = omega (arith, small c.requires _ _ _ c.loop-e.invariant, c.requires.shape.few)
 
 pub put-requires : goal.put-requires
-put-requires c = (omega (arith, c.twin-c.ensures, far-in c.requires _ _ _ c.loop-e.invariant), c.requires.small)
+put-requires c = (omega (arith, c.twin-c.ensures, far_in c.requires _ _ _ c.loop-e.invariant), c.requires.small)
 
 pub next_of-e-requires : goal.next_of-e-requires
 next_of-e-requires c = (c.requires.shape, omega (arith, c.twin-c.ensures, far c.requires _ _ _ c.loop-e.invariant, small c.requires _ _ _ c.loop-e.invariant))

@@ -2,14 +2,14 @@
 use mathlib.Core.Path.{◌∙◌}
 use native.Mathlib.Omega.{arith}
 use borrow.Author.Rules.{rules}
-use Rattle.survey.proofs.Rooms.{clear-rooms, clear-total, clear-faces}
+use Rattle.survey.proofs.Rooms.{clear_rooms, clear_total, clear_faces}
 use Rattle.findings.proofs.place_all.Goals as goal
 
 pub room_table-requires : goal.room_table-requires
 room_table-requires c =
     let p = c.requires in
     let C = p.clear.0 in
-    (C.formed.shape, C.past.rings, C.formed.outer, p.clear.1.0, c.outer_dart-outer.ensures, search rules, p.list_len.1.1.1.0, clear-rooms _ _ _ C)
+    (C.formed.shape, C.past.rings, C.formed.outer, p.clear.1.0, c.outer_dart-outer.ensures, search rules, p.list_len.1.1.1.0, clear_rooms _ _ _ C)
 
 pub write_places-requires : goal.write_places-requires
 write_places-requires c =
@@ -26,9 +26,9 @@ write_places-requires c =
           keyed = p.clear.1.0;
           poled = Q;
           firsts = p.clear.1.1;
-          few = omega (arith, (clear-faces _ _ _ C).1, C.formed.shape.few);
+          few = omega (arith, (clear_faces _ _ _ C).1, C.formed.shape.few);
           roomed = W;
-          total = clear-total _ _ _ C _ _ _ p.clear.1.0 Q W;
+          total = clear_total _ _ _ C _ _ _ p.clear.1.0 Q W;
         },
         p.list_len.1.0 ∙ C.formed.events,
       );

@@ -5,11 +5,11 @@ use mathlib.Core.Logic.{◌≢◌}
 use Prim.Native.Nat.{ℕ, ◌≤◌}
 use native.Mathlib.Omega.{arith}
 use lib.ListN.{length, length-replicate}
-use Rattle.rules.proofs.Chain.{given-append}
+use Rattle.rules.proofs.Chain.{given_append}
 use Rattle.survey.specs.Past.{order_tests, later_tests}
-use Rattle.survey.proofs.Passing.{at_zero, survey-clear}
+use Rattle.survey.proofs.Passing.{at_zero, survey_clear}
 use Rattle.findings.specs.Stretch.{last_tests}
-use Rattle.findings.proofs.Running.{later-small, silent-run, run-before, run-after}
+use Rattle.findings.proofs.Running.{later_small, silent_run, run_before, run_after}
 use Rattle.findings.proofs.test_later.Goals as goal
 use Rattle.findings.proofs.test_later.Goals.{Else-fault-ge1}
 
@@ -25,7 +25,7 @@ put_list-w-requires c =
     let events : c.args.v ≤ 1024 = omega (arith, p.formed.0.events, p.formed.0.shape.events) in
     record {
       low = c.if-fault-ge12.true;
-      high = omega (arith, later-small _ _ S.given);
+      high = omega (arith, later_small _ _ S.given);
       held = few;
       small = omega (arith, few, lent);
       fits = omega (arith, few, lent, p.formed.3);
@@ -35,22 +35,22 @@ pub returns-then-fault-ge12 : goal.returns-then-fault-ge12
 returns-then-fault-ge12 c =
     let S = c.survey_later-found.ensures in
     let w = c.put_list-w.ensures in
-    run-before later_tests last_tests _ _ _ _ _ (λ e. omega (arith, c.if-fault-ge12.true))
+    run_before later_tests last_tests _ _ _ _ _ (λ e. omega (arith, c.if-fault-ge12.true))
     (record { given = S.given; entries = _; allowed = (S.evidence c.if-fault-ge12.true).1; written = w.1; left = w.0 })
 
 pub returns-then-fault-ge1 : goal.returns-then-fault-ge1
 returns-then-fault-ge1 c =
     let S = c.survey_later-found in
     let some : S.result.fault ≢ 0 = λ e. omega (arith, c.if-fault-ge1.true) in
-    run-before later_tests last_tests _ _ _ _ _ some (silent-run later_tests _ _ _ S.ensures.given some (omega (arith, c.if-fault-ge12.false)))
+    run_before later_tests last_tests _ _ _ _ _ some (silent_run later_tests _ _ _ S.ensures.given some (omega (arith, c.if-fault-ge12.false)))
 
 pub settle-requires : goal.settle-requires
 settle-requires c =
     let p = c.requires in
     let S = c.survey_later-found.ensures in
-    let clear = survey-clear _ _ _ p.formed.0 (given-append order_tests later_tests _ 0 0 p.formed.1 (at_zero later_tests _ _ (zero (goal.at.settle-requires c).Else-fault-ge1) S.given)) in
+    let clear = survey_clear _ _ _ p.formed.0 (given_append order_tests later_tests _ 0 0 p.formed.1 (at_zero later_tests _ _ (zero (goal.at.settle-requires c).Else-fault-ge1) S.given)) in
     let list = c.list-1.given ∙ p.here_value.1 in
     let large = c.large-1.given ∙ ap length p.here_value.2 ∙ length-replicate {A = ℕ} _ 0 in record { clear = (clear, (S.keyed (zero (goal.at.settle-requires c).Else-fault-ge1), p.formed.2)); list_len = (list, (large, (omega (arith, c.spare-1.given, p.here_value.3), (S.switched (zero (goal.at.settle-requires c).Else-fault-ge1), p.formed.3)))) }
 
 pub returns : goal.returns
-returns c = run-after later_tests last_tests _ _ _ _ _ (at_zero later_tests _ _ (zero (goal.at.returns c).Else-fault-ge1) c.survey_later-found.ensures.given) c.settle.ensures
+returns c = run_after later_tests last_tests _ _ _ _ _ (at_zero later_tests _ _ (zero (goal.at.returns c).Else-fault-ge1) c.survey_later-found.ensures.given) c.settle.ensures

@@ -7,7 +7,7 @@ use lib.ListN.{length}
 use Rattle.drawing.specs.Drawing.{darts}
 use Rattle.rules.specs.Chart.{drawing}
 use Rattle.report.proofs.Laws.{part_length}
-use Rattle.findings.proofs.Writing.{left-whole, cut-run, labels-run}
+use Rattle.findings.proofs.Writing.{left_whole, cut_run, labels_run}
 use Rattle.findings.proofs.write_places.Goals as goal
 
 pub put_list-w-requires : goal.put_list-w-requires
@@ -30,8 +30,8 @@ returns-then-r-lt65535 c =
     let f = c.find_places-r in
     let r = f.ensures.no c.if-r-lt65535.true in
     let even : darts (drawing c.args.chart.now) % 2 ≡ 0 = omega (arith, p.shape.0.darts, p.shape.0.even) in
-    let whole = left-whole c.args.report.now f.new.labels (8 + c.args.n - 8) r.2 in
-    cut-run _ _ _ _ _ _ even p.shape.1.rings whole r.1 c.put_list-w.ensures
+    let whole = left_whole c.args.report.now f.new.labels (8 + c.args.n - 8) r.2 in
+    cut_run _ _ _ _ _ _ even p.shape.1.rings whole r.1 c.put_list-w.ensures
 
 pub returns : goal.returns
 returns c =
@@ -41,4 +41,4 @@ returns c =
     let room : 8 + n ≤ length c.args.report.now = omega (arith, p.shape.0.few, p.report_room_in_bounds) in
     let size = f.auto.labels ∙ part_length c.args.report.now n room in
     let labels = f.ensures.yes (omega (arith, c.if-r-lt65535.false)) in
-    labels-run _ c.args.report.now f.new.labels n _ room size labels c.put_header.ensures
+    labels_run _ c.args.report.now f.new.labels n _ room size labels c.put_header.ensures

@@ -3,7 +3,7 @@ use mathlib.Core.Path.{◌∙◌}
 use Prim.Native.Nat.{◌≤◌}
 use lib.ListN.{length}
 use Rattle.finite.proofs.Filled.{lent_length}
-use Rattle.survey.proofs.Rooms.{part_length, part-switched}
+use Rattle.survey.proofs.Rooms.{part_length, part_switched}
 use native.Mathlib.Omega.{arith}
 use borrow.Author.Rules.{rules}
 use Rattle.judge.proofs.labels_right.Goals as goal
@@ -14,4 +14,4 @@ weigh_labels-requires c =
     let F = p.clear.0.formed in
     let h : c.args.v ≤ 1024 = omega (arith, F.events, F.shape.events) in
     let f = c.face_count-f in
-    let few : f.result ≤ length c.args.spare.now = omega (arith, f.ensures.1, p.n_bound.0) in record { clear = p.clear; poles_len = ((search rules, (part_length f.result _ few ∙ f.ensures.0, part-switched f.result _ few p.n_bound.1)), (search rules, lent_length 3072 f.result 0 (omega (arith, f.ensures.1, F.shape.few)) ∙ f.ensures.0)) }
+    let few : f.result ≤ length c.args.spare.now = omega (arith, f.ensures.1, p.n_bound.0) in record { clear = p.clear; poles_len = ((search rules, (part_length f.result _ few ∙ f.ensures.0, part_switched f.result _ few p.n_bound.1)), (search rules, lent_length 3072 f.result 0 (omega (arith, f.ensures.1, F.shape.few)) ∙ f.ensures.0)) }

@@ -14,11 +14,11 @@ use Rattle.rules.specs.Report.{good, form, body, entry}
 use Rattle.rules.specs.Judge.{Deserves}
 use Rattle.report.specs.Headers.{formed}
 use Rattle.report.proofs.Good.{good_length}
-use Rattle.judge.proofs.Deserving.{bad-form, other_result, other-count, labels-deserve, cut-deserves}
+use Rattle.judge.proofs.Deserving.{bad_form, other_result, other_count, labels_deserve, cut_deserves}
 use Rattle.judge.proofs.weigh.Goals as goal
 
 pub returns-in_default : goal.returns-in_default
-returns-in_default c = (2, bad-form _ _ (sym (ap formed c.in_default.is) ∙ c.form_of-header.ensures), refl)
+returns-in_default c = (2, bad_form _ _ (sym (ap formed c.in_default.is) ∙ c.form_of-header.ensures), refl)
 
 pub returns-then-count-n : goal.returns-then-count-n
 returns-then-count-n c =
@@ -28,7 +28,7 @@ returns-then-count-n c =
     let g = drawing a.chart.now in
     let S = c.requires.0.formed.shape in
     let read : good r n ≡ form a.report.now = sym (ap formed c.in-Good.is) ∙ c.form_of-header.ensures in
-    (2, other-count g a.report.now r n read c.if-result-eq0.true (λ e. c.if-count-n.true (e ∙ sym S.darts)), refl)
+    (2, other_count g a.report.now r n read c.if-result-eq0.true (λ e. c.if-count-n.true (e ∙ sym S.darts)), refl)
 
 pub labels_right-requires : goal.labels_right-requires
 labels_right-requires c =
@@ -51,7 +51,7 @@ returns-then-labels_right c =
     let e : n ≡ darts g = c.if-count-n.false ∙ S.darts in
     let b = c.labels_right.result in
     let says : Says b (Labelling g (body a.report.now)) = subst (λ (l : List ℕ). Says b (Labelling g l)) c.body_of-body.ensures.result_value c.labels_right.ensures in
-    (0, subst (λ (x : Bool). Deserves g a.report.now (cond x 0 3)) c.if-labels_right.true (labels-deserve g a.report.now r n read c.if-result-eq0.true e b says), refl)
+    (0, subst (λ (x : Bool). Deserves g a.report.now (cond x 0 3)) c.if-labels_right.true (labels_deserve g a.report.now r n read c.if-result-eq0.true e b says), refl)
 
 pub returns-then-result-eq0 : goal.returns-then-result-eq0
 returns-then-result-eq0 c =
@@ -64,7 +64,7 @@ returns-then-result-eq0 c =
     let e : n ≡ darts g = c.if-count-n.false ∙ S.darts in
     let b = c.labels_right.result in
     let says : Says b (Labelling g (body a.report.now)) = subst (λ (l : List ℕ). Says b (Labelling g l)) c.body_of-body.ensures.result_value c.labels_right.ensures in
-    (3, subst (λ (x : Bool). Deserves g a.report.now (cond x 0 3)) c.if-labels_right.false (labels-deserve g a.report.now r n read c.if-result-eq0.true e b says), refl)
+    (3, subst (λ (x : Bool). Deserves g a.report.now (cond x 0 3)) c.if-labels_right.false (labels_deserve g a.report.now r n read c.if-result-eq0.true e b says), refl)
 
 pub cut_right-requires : goal.cut_right-requires
 cut_right-requires c =
@@ -86,7 +86,7 @@ returns-then-cut_right c =
     let read : good r n ≡ form a.report.now = sym (ap formed c.in-Good.is) ∙ c.form_of-header.ensures in
     let b = c.cut_right.result in
     let says : Says b (Cut g (words (body a.report.now) 0 n)) = subst (λ (l : List ℕ). Says b (Cut g (words l 0 n))) c.body_of-body.ensures.result_value c.cut_right.ensures in
-    (1, subst (λ (x : Bool). Deserves g a.report.now (cond x 1 4)) c.if-cut_right.true (cut-deserves g a.report.now r n read c.if-result-eq14.true b says), refl)
+    (1, subst (λ (x : Bool). Deserves g a.report.now (cond x 1 4)) c.if-cut_right.true (cut_deserves g a.report.now r n read c.if-result-eq14.true b says), refl)
 
 pub returns-then-result-eq14 : goal.returns-then-result-eq14
 returns-then-result-eq14 c =
@@ -98,7 +98,7 @@ returns-then-result-eq14 c =
     let read : good r n ≡ form a.report.now = sym (ap formed c.in-Good.is) ∙ c.form_of-header.ensures in
     let b = c.cut_right.result in
     let says : Says b (Cut g (words (body a.report.now) 0 n)) = subst (λ (l : List ℕ). Says b (Cut g (words l 0 n))) c.body_of-body.ensures.result_value c.cut_right.ensures in
-    (4, subst (λ (x : Bool). Deserves g a.report.now (cond x 1 4)) c.if-cut_right.false (cut-deserves g a.report.now r n read c.if-result-eq14.true b says), refl)
+    (4, subst (λ (x : Bool). Deserves g a.report.now (cond x 1 4)) c.if-cut_right.false (cut_deserves g a.report.now r n read c.if-result-eq14.true b says), refl)
 
 pub returns : goal.returns
 returns c =

@@ -1,6 +1,6 @@
 -- `judge::weigh_labels` meets its contract: past test 13 no room is negative. Assumes nothing.
 use mathlib.Core.Path.{◌∙◌}
-use Rattle.survey.proofs.Rooms.{clear-rooms}
+use Rattle.survey.proofs.Rooms.{clear_rooms}
 use borrow.Author.Rules.{rules}
 use Rattle.judge.proofs.weigh_labels.Goals as goal
 
@@ -8,7 +8,7 @@ pub room_table-requires : goal.room_table-requires
 room_table-requires c =
     let p = c.requires in
     let C = p.clear.0 in
-    (C.formed.shape, C.past.rings, C.formed.outer, p.clear.1.0, c.outer_dart-outer.ensures, search rules, p.poles_len.0.1.1, clear-rooms _ _ _ C)
+    (C.formed.shape, C.past.rings, C.formed.outer, p.clear.1.0, c.outer_dart-outer.ensures, search rules, p.poles_len.0.1.1, clear_rooms _ _ _ C)
 
 pub labels_hold-requires : goal.labels_hold-requires
 labels_hold-requires c =

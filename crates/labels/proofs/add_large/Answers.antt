@@ -4,7 +4,7 @@ use Prim.Native.Nat.{ℕ, ◌+◌}
 use native.Mathlib.Nat.{add-zero}
 use lib.ListN.{set}
 use lib.Seq.{set-get_or}
-use Rattle.finite.proofs.Sum.{δ-eq, δ-other}
+use Rattle.finite.proofs.Sum.{δ-eq, δ_other}
 use Rattle.words.specs.Tables.{nth}
 use Rattle.labels.proofs.add_large.Goals as goal
 
@@ -12,4 +12,4 @@ pub returns-then-b-eq2 : goal.returns-then-b-eq2
 returns-then-b-eq2 c = ap (λ (x : ℕ). set c.args.t.now c.args.key (nth c.args.t.now c.args.key + x)) (sym (δ-eq _ 2 c.if-b-eq2.true))
 
 pub returns-else-b-eq2 : goal.returns-else-b-eq2
-returns-else-b-eq2 c = sym (set-get_or c.args.t.now c.args.key 0) ∙ ap (set c.args.t.now c.args.key) (sym (ap (λ (x : ℕ). nth c.args.t.now c.args.key + x) (δ-other _ 2 c.if-b-eq2.false) ∙ add-zero _))
+returns-else-b-eq2 c = sym (set-get_or c.args.t.now c.args.key 0) ∙ ap (set c.args.t.now c.args.key) (sym (ap (λ (x : ℕ). nth c.args.t.now c.args.key + x) (δ_other _ 2 c.if-b-eq2.false) ∙ add-zero _))

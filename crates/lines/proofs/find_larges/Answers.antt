@@ -5,12 +5,12 @@ use native.Mathlib.Omega.{arith}
 use lib.ListN.{length}
 use Rattle.rules.specs.Chart.{drawing}
 use Rattle.lines.specs.Follow.{Noted}
-use Rattle.lines.proofs.First.{note-start}
+use Rattle.lines.proofs.First.{note_start}
 use borrow.Author.Rules.{rules}
 use Rattle.lines.proofs.find_larges.Goals as goal
 
 pub loop-c-init : goal.loop-c-init
-loop-c-init c = (search rules, rw c.fill.ensures (note-start (drawing c.args.chart.now) c.args.labels.now (length c.args.large.now) c.requires.1.1))
+loop-c-init c = (search rules, rw c.fill.ensures (note_start (drawing c.args.chart.now) c.args.labels.now (length c.args.large.now) c.requires.1.1))
 
 pub note-requires : goal.note-requires
 note-requires c = (c.requires.0, (c.requires.1.0, (search rules, c.loop-c.invariant.1)))

@@ -5,7 +5,7 @@ use native.Mathlib.Omega.{arith}
 use Rattle.words.specs.Tables.{nth}
 use Rattle.lines.specs.Text.{pair}
 use Rattle.lines.proofs.Text.{wrote_nothing, wrote_as}
-use Rattle.lines.proofs.Each.{entry-none, entry-some}
+use Rattle.lines.proofs.Each.{entry-none, entry_some}
 use borrow.Author.Rules.{rules}
 use Rattle.lines.proofs.put_entry.Goals as goal
 
@@ -26,4 +26,4 @@ returns c =
     let a = c.args in
     let g = c.get-c in
     let some : nth a.large.now a.v < 65535 = omega (arith, g.ensures) in
-    wrote_as c.put_pair.ensures (ap (pair a.v) g.ensures ∙ sym (entry-some a.large.now a.v some))
+    wrote_as c.put_pair.ensures (ap (pair a.v) g.ensures ∙ sym (entry_some a.large.now a.v some))

@@ -2,8 +2,8 @@
 use native.Mathlib.Omega.{arith}
 use Rattle.rules.specs.Listing.{ascii}
 use Rattle.lines.proofs.Text.{wrote_then}
-use Rattle.lines.proofs.Decimal.{named-short}
-use Rattle.lines.proofs.Said.{saying-short}
+use Rattle.lines.proofs.Decimal.{named_short}
+use Rattle.lines.proofs.Said.{saying_short}
 use borrow.Author.Rules.{rules}
 use Rattle.lines.proofs.put_head.Goals as goal
 
@@ -11,7 +11,7 @@ pub put_text-words-requires : goal.put_text-words-requires
 unfolding ascii
 put_text-words-requires c =
     let a = c.args in
-    omega (arith, c.put_named-space.auto.out, c.put_named-space.ensures.end, named-short (ascii "result ") a.number (search rules))
+    omega (arith, c.put_named-space.auto.out, c.put_named-space.ensures.end, named_short (ascii "result ") a.number (search rules))
 
 pub put_words-said-requires : goal.put_words-said-requires
 unfolding ascii
@@ -23,7 +23,7 @@ put_words-said-requires c =
         c.put_text-words.ensures.end,
         c.put_named-space.auto.out,
         c.put_named-space.ensures.end,
-        named-short (ascii "result ") a.number (search rules),
+        named_short (ascii "result ") a.number (search rules),
       ),
       search rules,
     )
@@ -40,8 +40,8 @@ put_text-end-requires c =
       c.put_text-words.ensures.end,
       c.put_named-space.auto.out,
       c.put_named-space.ensures.end,
-      named-short (ascii "result ") a.number (search rules),
-      saying-short a.number (search rules),
+      named_short (ascii "result ") a.number (search rules),
+      saying_short a.number (search rules),
     )
 
 pub returns : goal.returns

@@ -4,7 +4,7 @@ use mathlib.Core.List.{◌++◌, append_assoc}
 use native.Mathlib.Omega.{arith}
 use Rattle.rules.specs.Listing.{ascii, decimal}
 use Rattle.lines.proofs.Text.{wrote_as, wrote_then}
-use Rattle.lines.proofs.Decimal.{named-short}
+use Rattle.lines.proofs.Decimal.{named_short}
 use borrow.Author.Rules.{rules}
 use Rattle.lines.proofs.put_pair.Goals as goal
 
@@ -12,7 +12,7 @@ pub put_named-end-requires : goal.put_named-end-requires
 unfolding ascii
 put_named-end-requires c =
     let a = c.args in
-    (omega (arith, c.put_named-corner.auto.out, c.put_named-corner.ensures.end, named-short (ascii "event ") a.v (search rules)), search rules)
+    (omega (arith, c.put_named-corner.auto.out, c.put_named-corner.ensures.end, named_short (ascii "event ") a.v (search rules)), search rules)
 
 pub put_text-requires : goal.put_text-requires
 unfolding ascii
@@ -24,8 +24,8 @@ put_text-requires c =
       c.put_named-end.ensures.end,
       c.put_named-corner.auto.out,
       c.put_named-corner.ensures.end,
-      named-short (ascii "event ") a.v (search rules),
-      named-short (ascii " corner ") a.c (search rules),
+      named_short (ascii "event ") a.v (search rules),
+      named_short (ascii " corner ") a.c (search rules),
     )
 
 pub returns : goal.returns

@@ -5,8 +5,8 @@ use lib.ListN.{length}
 use Rattle.finite.specs.Sums.{below}
 use Rattle.rules.specs.Listing.{each}
 use Rattle.lines.specs.Follow.{pairs}
-use Rattle.lines.proofs.Text.{wrote_nothing, wrote_as, wrote_then, wrote-length}
-use Rattle.lines.proofs.Each.{pairs-more, entry-short}
+use Rattle.lines.proofs.Text.{wrote_nothing, wrote_as, wrote_then, wrote_length}
+use Rattle.lines.proofs.Each.{pairs_more, entry_short}
 use borrow.Author.Rules.{rules}
 use Rattle.lines.proofs.put_table.Goals as goal
 
@@ -19,16 +19,16 @@ loop-v-init c =
 pub put_entry-end-requires : goal.put_entry-end-requires
 put_entry-end-requires c =
     let l = c.loop-v in
-    (omega (arith, wrote-length l.invariant.1.1), search rules)
+    (omega (arith, wrote_length l.invariant.1.1), search rules)
 
 pub loop-v-preserved : goal.loop-v-preserved
 loop-v-preserved c =
     let l = c.loop-v in
     let w = c.put_entry-end.ensures in
-    (search rules, (omega (arith, w.end, entry-short c.args.large.now l.v c.requires.1 (search rules)), wrote_as (wrote_then l.invariant.1.1 w) (pairs-more c.args.large.now l.v)))
+    (search rules, (omega (arith, w.end, entry_short c.args.large.now l.v c.requires.1 (search rules)), wrote_as (wrote_then l.invariant.1.1 w) (pairs_more c.args.large.now l.v)))
 
 pub shape_of-out : goal.shape_of-out
-shape_of-out c = wrote-length c.loop-v.invariant.1.1
+shape_of-out c = wrote_length c.loop-v.invariant.1.1
 
 pub returns : goal.returns
 returns c =

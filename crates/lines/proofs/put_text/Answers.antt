@@ -6,7 +6,7 @@ use native.Mathlib.Numerals.{add-one}
 use native.Mathlib.Omega.{arith}
 use lib.ListN.{length, get_or, set}
 use lib.Seq.{paste, paste-zero, paste-suc}
-use Rattle.lines.proofs.Text.{wrote-copied}
+use Rattle.lines.proofs.Text.{wrote_copied}
 use borrow.Author.Rules.{rules}
 use Rattle.lines.proofs.put_text.Goals as goal
 
@@ -24,4 +24,4 @@ returns c =
     let l = c.loop-i in
     let a = c.args in
     let done : l.i ≡ length a.text.now = omega arith in
-    rw l.invariant.1.1 (wrote-copied a.out.now a.text.now a.at l.i (search rules) done)
+    rw l.invariant.1.1 (wrote_copied a.out.now a.text.now a.at l.i (search rules) done)

@@ -1,7 +1,7 @@
 -- `places::cut_list` meets its contract: the members below v are listed. Assumes nothing.
 use native.Mathlib.Omega.{arith}
 use borrow.Author.Rules.{rules}
-use Rattle.placing.proofs.Writes.{list-none, list_same, list-more}
+use Rattle.placing.proofs.Writes.{list_none, list_same, list_more}
 use lib.ListN.{length, set, length-set}
 use Prim.Native.Nat.{◌<◌}
 use mathlib.Core.Path.{◌≡◌, ap, ◌∙◌}
@@ -9,7 +9,7 @@ use Rattle.places.proofs.cut_list.Goals as goal
 use Rattle.places.proofs.cut_list.Goals.{then-in_cut-ge1, else-in_cut-ge1}
 
 pub loop-v-init : goal.loop-v-init
-loop-v-init c = (list-none _ _, search rules, search rules, search rules)
+loop-v-init c = (list_none _ _, search rules, search rules, search rules)
 
 pub in_cut-requires : goal.in_cut-requires
 in_cut-requires c =
@@ -28,7 +28,7 @@ loop-v-preserved c =
       | then-in_cut-ge1 w ↦
           let room : loop.k < length loop.list = omega (arith, loop.invariant.1, loop.invariant.2, c.loop-v-test.true) in
           let e : c.if-in_cut-ge1.list ≡ set loop.list loop.k loop.v = w.list-is ∙ w.put.ensures in (
-            rw (e, w.k-is) (list-more loop.invariant.0 (omega (arith, c.in_cut.ensures, w.if-in_cut-ge1.true)) room),
+            rw (e, w.k-is) (list_more loop.invariant.0 (omega (arith, c.in_cut.ensures, w.if-in_cut-ge1.true)) room),
             omega (arith, w.k-is, loop.invariant.1),
             ap length e ∙ length-set loop.list loop.k loop.v ∙ loop.invariant.2,
             omega (arith, c.loop-v-test.true),

@@ -3,7 +3,7 @@ use mathlib.Core.Path.{◌∙◌, ap}
 use Prim.Native.Nat.{ℕ}
 use native.Mathlib.Omega.{arith}
 use lib.ListN.{replicate}
-use Rattle.places.proofs.Ends.{begin, left, found-labels, found-cut}
+use Rattle.places.proofs.Ends.{begin, left, found_labels, found_cut}
 use Rattle.places.proofs.find_places.Goals as goal
 
 pub seat_all-w-requires : goal.seat_all-w-requires
@@ -17,7 +17,7 @@ rest-k-requires c = let p = c.requires in left p.0 p.1 c.seat_all-w.ensures
 pub returns-then-k-lt65535 : goal.returns-then-k-lt65535
 returns-then-k-lt65535 c =
     let p = c.requires in
-    found-cut p.0 p.1 c.seat_all-w.ensures c.rest-k.ensures _ c.if-k-lt65535.true (c.list-1.given ∙ p.1.poled.size)
+    found_cut p.0 p.1 c.seat_all-w.ensures c.rest-k.ensures _ c.if-k-lt65535.true (c.list-1.given ∙ p.1.poled.size)
 
 pub write_labels-requires : goal.write_labels-requires
 write_labels-requires c =
@@ -28,4 +28,4 @@ write_labels-requires c =
 pub returns : goal.returns
 returns c =
     let p = c.requires in
-    found-labels p.0 p.1 c.seat_all-w.ensures c.rest-k.ensures _ (omega (arith, c.if-k-lt65535.false)) c.write_labels.ensures
+    found_labels p.0 p.1 c.seat_all-w.ensures c.rest-k.ensures _ (omega (arith, c.if-k-lt65535.false)) c.write_labels.ensures

@@ -1,6 +1,6 @@
 -- `places::in_cut` meets its contract. Assumes nothing.
 use native.Mathlib.Omega.{arith}
-use Rattle.placing.proofs.Writes.{member-self, member-none, member-placed}
+use Rattle.placing.proofs.Writes.{member_self, member-none, member-placed}
 use Rattle.words.specs.Tables.{nth}
 use mathlib.Core.Path.{sym, ap, ◌∙◌}
 use borrow.Author.Rules.{rules}
@@ -11,7 +11,7 @@ returns-then-u-v c =
     let args = c.args in
     let pre = c.requires in
     let if1 = c.if-u-v in
-    sym (member-self args.here.now args.large.now args.rank.now args.u args.v pre.1.size if1.true)
+    sym (member_self args.here.now args.large.now args.rank.now args.u args.v pre.1.size if1.true)
 
 pub returns-then-here-c : goal.returns-then-here-c
 returns-then-here-c c =

@@ -1,7 +1,7 @@
 -- `places::seat` meets its contract: a source or sink sits where a corner near has room. Assumes nothing.
 use native.Mathlib.Omega.{arith}
 use mathlib.Core.Path.{refl, ◌∙◌}
-use Rattle.places.proofs.Turns.{near-sits}
+use Rattle.places.proofs.Turns.{near_sits}
 use Rattle.places.proofs.seat.Goals as goal
 
 pub returns-then-get-ne1 : goal.returns-then-get-ne1
@@ -16,7 +16,7 @@ pub returns-then-c-ge65535 : goal.returns-then-c-ge65535
 returns-then-c-ge65535 c = record { few = omega arith; skip = λ q. absurd (omega arith); placed = λ q. absurd (omega arith); left = λ q. (refl, refl) }
 
 pub sit-requires : goal.sit-requires
-sit-requires c = near-sits c.requires c.get-d.ensures c.room_near-c.ensures (omega (arith, c.if-c-ge65535.false))
+sit-requires c = near_sits c.requires c.get-d.ensures c.room_near-c.ensures (omega (arith, c.if-c-ge65535.false))
 
 pub returns : goal.returns
 returns c = record {

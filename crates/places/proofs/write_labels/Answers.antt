@@ -2,11 +2,11 @@
 use mathlib.Core.Path.{sym, ◌∙◌}
 use native.Mathlib.Omega.{arith}
 use borrow.Author.Rules.{rules}
-use Rattle.places.proofs.Marks.{raised-start, raised-done}
+use Rattle.places.proofs.Marks.{raised_start, raised_done}
 use Rattle.places.proofs.write_labels.Goals as goal
 
 pub loop-v-init : goal.loop-v-init
-loop-v-init c = (omega arith, raised-start _ _ _ c.write_plain.ensures)
+loop-v-init c = (omega arith, raised_start _ _ _ c.write_plain.ensures)
 
 pub raise-requires : goal.raise-requires
 raise-requires c =
@@ -22,4 +22,4 @@ shape_of-labels c = let p = c.requires in c.loop-v.invariant.1.size ∙ sym p.0.
 pub returns : goal.returns
 returns c =
     let p = c.requires in
-    raised-done _ _ _ _ p.3 (omega (arith, c.loop-v-test.false, p.2)) c.loop-v.invariant.1
+    raised_done _ _ _ _ p.3 (omega (arith, c.loop-v-test.false, p.2)) c.loop-v.invariant.1

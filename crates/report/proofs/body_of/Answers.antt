@@ -7,14 +7,14 @@ use borrow.Author.Rules.{rules}
 use lib.ListN.{length, drop, length-drop}
 use lib.Seq.{take_all}
 use Rattle.rules.specs.Report.{is_well_formed, body}
-use Rattle.report.proofs.Good.{form-long}
+use Rattle.report.proofs.Good.{form_long}
 use Rattle.report.proofs.body_of.Goals as goal
 
 pub slice_bounds-result-count : goal.slice_bounds-result-count
-slice_bounds-result-count c = omega (arith, form-long _ (sym c.well_formed-2.ensures ∙ c.if-well_formed.true))
+slice_bounds-result-count c = omega (arith, form_long _ (sym c.well_formed-2.ensures ∙ c.if-well_formed.true))
 
 pub slice_bounds-result-start : goal.slice_bounds-result-start
-slice_bounds-result-start c = omega (arith, form-long _ (sym c.well_formed-2.ensures ∙ c.if-well_formed.true))
+slice_bounds-result-start c = omega (arith, form_long _ (sym c.well_formed-2.ensures ∙ c.if-well_formed.true))
 
 pub returns-then-well_formed : goal.returns-then-well_formed
 unfolding body

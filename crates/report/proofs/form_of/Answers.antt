@@ -3,14 +3,14 @@ use mathlib.Core.Path.{◌≡◌, sym, ap₂, ◌∙◌}
 use mathlib.Core.Bool.{true, false}
 use native.Mathlib.Omega.{arith}
 use Rattle.rules.specs.Report.{good, is_well_formed, form}
-use Rattle.report.proofs.Good.{form-long}
+use Rattle.report.proofs.Good.{form_long}
 use Rattle.report.proofs.form_of.Goals as goal
 
 pub bounds-report-5 : goal.bounds-report-5
-bounds-report-5 c = omega (arith, form-long _ (sym c.well_formed-2.ensures ∙ c.if-well_formed.true))
+bounds-report-5 c = omega (arith, form_long _ (sym c.well_formed-2.ensures ∙ c.if-well_formed.true))
 
 pub word-requires : goal.word-requires
-word-requires c = omega (arith, form-long _ (sym c.well_formed-2.ensures ∙ c.if-well_formed.true))
+word-requires c = omega (arith, form_long _ (sym c.well_formed-2.ensures ∙ c.if-well_formed.true))
 
 pub returns-then-well_formed : goal.returns-then-well_formed
 unfolding form

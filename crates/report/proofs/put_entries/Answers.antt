@@ -5,11 +5,11 @@ use Prim.Native.Nat.{ℕ, ◌+◌, ◌*◌}
 use native.Mathlib.Omega.{arith}
 use borrow.Author.Rules.{rules}
 use Rattle.words.specs.Tables.{with_word}
-use Rattle.report.proofs.Laws.{behind, behind-none, behind_more}
+use Rattle.report.proofs.Laws.{behind, behind_none, behind_more}
 use Rattle.report.proofs.put_entries.Goals as goal
 
 pub loop-i-init : goal.loop-i-init
-loop-i-init c = (search rules, (search rules, behind-none c.args.report.now c.args.list.now))
+loop-i-init c = (search rules, (search rules, behind_none c.args.report.now c.args.list.now))
 
 pub put_word-requires : goal.put_word-requires
 put_word-requires c = (search rules, omega (arith, c.shared_slice_known-1.given c.loop-i.i))

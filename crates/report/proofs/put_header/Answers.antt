@@ -6,7 +6,7 @@ use native.Mathlib.Omega.{arith}
 use borrow.Author.Rules.{rules}
 use lib.ListN.{set, length-set}
 use Rattle.words.specs.Tables.{with_word}
-use Rattle.report.proofs.Laws.{header-put}
+use Rattle.report.proofs.Laws.{header_put}
 use Rattle.report.proofs.put_header.Goals as goal
 
 pub bounds-report-1 : goal.bounds-report-1
@@ -32,4 +32,4 @@ returns c =
     let a = c.args in
     c.put_word-2.ensures
     ∙ ap (λ (s : List ℕ). with_word (set s 5 a.res) 6 a.count) c.put_word.ensures
-    ∙ header-put a.report.now a.res a.count (search rules)
+    ∙ header_put a.report.now a.res a.count (search rules)

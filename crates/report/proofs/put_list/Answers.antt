@@ -5,7 +5,7 @@ use Prim.Native.Nat.{ℕ, ◌+◌, ◌*◌}
 use lib.ListN.{take, drop}
 use Rattle.rules.specs.Report.{report}
 use Rattle.report.specs.Headers.{header}
-use Rattle.report.proofs.Laws.{list-size, list-report, list_length}
+use Rattle.report.proofs.Laws.{list_size, list_report, list_length}
 use Rattle.report.proofs.put_list.Goals as goal
 
 pub returns : goal.returns
@@ -14,10 +14,10 @@ returns c =
     let b = a.report.now in
     let l = a.list.now in
     let pre = c.requires in
-    let size : 8 + 2 * a.count ≡ c.size.result = sym (c.size.ensures ∙ list-size b l a.res a.count pre) in (
+    let size : 8 + 2 * a.count ≡ c.size.result = sym (c.size.ensures ∙ list_size b l a.res a.count pre) in (
       c.put_header.ensures
           ∙ ap (λ (s : List ℕ). header a.res a.count ++ drop 8 s) c.put_entries.ensures
-          ∙ list-report b l a.res a.count pre
+          ∙ list_report b l a.res a.count pre
           ∙ ap (λ (k : ℕ). report a.res (take a.count l) ++ drop k b) size,
       sym size ∙ list_length b l a.res a.count pre,
     )

@@ -2,7 +2,7 @@
 -- nothing.
 use native.Mathlib.Omega.{arith}
 use borrow.Author.Rules.{rules}
-use Rattle.rings.proofs.Rest.{all-gone}
+use Rattle.rings.proofs.Rest.{all_gone}
 use Rattle.rings.proofs.follow_rest.Goals as goal
 
 pub loop-v-init : goal.loop-v-init
@@ -18,4 +18,4 @@ pub returns : goal.returns
 returns c =
     let p = c.requires in
     let l = c.loop-v.invariant in
-    all-gone _ _ _ _ l.2 p.shape.1 p.shape.2 (omega (arith, c.loop-v-test.false, p.first_len.0)) _ p.shape.0.darts
+    all_gone _ _ _ _ l.2 p.shape.1 p.shape.2 (omega (arith, c.loop-v-test.false, p.first_len.0)) _ p.shape.0.darts

@@ -1,9 +1,9 @@
 -- `rings::joins_all` meets its contract: all events are joined exactly if each has a mark. Assumes nothing.
-use Rattle.finite.proofs.Yes.{says-as}
-use Rattle.rings.proofs.Whole.{all-joined, joined-all}
+use Rattle.finite.proofs.Yes.{says_as}
+use Rattle.rings.proofs.Whole.{all_joined, joined_all}
 use Rattle.rings.proofs.joins_all.Goals as goal
 
 pub returns : goal.returns
 returns c =
     let p = c.requires in
-    says-as c.all_marked.result (all-joined _ _ p.0 p.1 _ p.2) (joined-all _ _ p.0 p.1 _ p.2) c.all_marked.ensures
+    says_as c.all_marked.result (all_joined _ _ p.0 p.1 _ p.2) (joined_all _ _ p.0 p.1 _ p.2) c.all_marked.ensures

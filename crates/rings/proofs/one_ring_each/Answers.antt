@@ -4,21 +4,21 @@ use mathlib.Core.Path.{◌∙◌}
 use native.Mathlib.Omega.{arith}
 use borrow.Author.Rules.{rules}
 use borrow.Author.Tests.{not-true, not-false}
-use Rattle.finite.proofs.Yes.{says-yes, says-no}
+use Rattle.finite.proofs.Yes.{says_yes, says_no}
 use Rattle.drawing.specs.Conditions.{Rings}
-use Rattle.drawing.proofs.Rounds.{Kept, rings-kept}
-use Rattle.drawing.proofs.Counted.{rings-level}
+use Rattle.drawing.proofs.Rounds.{Kept, rings_kept}
+use Rattle.drawing.proofs.Counted.{rings_level}
 use Rattle.rules.specs.Chart.{drawing}
 use Rattle.rings.proofs.one_ring_each.Goals as goal
 use Rattle.rings.proofs.one_ring_each.Goals.{Else-not-all_keep}
 
 kept : (c : Else-not-all_keep) → Kept (drawing c.args.chart.now)
-kept c = let k = c.all_keep in (says-yes (not-false k.result c.if-not-all_keep.false-raw) k.ensures).0
+kept c = let k = c.all_keep in (says_yes (not-false k.result c.if-not-all_keep.false-raw) k.ensures).0
 
 pub returns-then-not-all_keep : goal.returns-then-not-all_keep
 returns-then-not-all_keep c =
     let k = c.all_keep in
-    let none : Rings (drawing c.args.chart.now) → ⊥ = λ R. says-no (not-true k.result c.if-not-all_keep.true-raw) k.ensures (rings-kept _ R, rings-level _ R) in record { says = none; met = λ R. absurd (none R) }
+    let none : Rings (drawing c.args.chart.now) → ⊥ = λ R. says_no (not-true k.result c.if-not-all_keep.true-raw) k.ensures (rings_kept _ R, rings_level _ R) in record { says = none; met = λ R. absurd (none R) }
 
 pub reach-met-requires : goal.reach-met-requires
 reach-met-requires c =
@@ -38,7 +38,7 @@ returns-then-n-met c =
 pub returns-then-all_marked : goal.returns-then-all_marked
 returns-then-all_marked c =
     let n = c.requires.shape.0.darts in
-    let all = says-yes c.if-all_marked.true c.all_marked.ensures in
+    let all = says_yes c.if-all_marked.true c.all_marked.ensures in
     let none = c.reach-met.ensures.short (omega (arith, c.if-n-met.false, c.if-met-n.false, n)) all in record { says = none; met = λ R. absurd (none R) }
 
 pub follow_rest-requires : goal.follow_rest-requires

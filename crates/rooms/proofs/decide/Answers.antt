@@ -4,7 +4,7 @@ use Prim.Native.Nat.{ℕ}
 use native.Mathlib.Omega.{arith}
 use borrow.Author.Rules.{rules}
 use Rattle.rooms.specs.Flags.{Decided}
-use Rattle.rooms.proofs.Flagging.{undecided, decided-more}
+use Rattle.rooms.proofs.Flagging.{undecided, decided_more}
 use Rattle.rooms.proofs.decide.Goals as goal
 
 pub loop-v-init : goal.loop-v-init
@@ -19,7 +19,7 @@ loop-v-smaller c = omega (arith, c.loop-v.invariant.1.size, c.loop-v-test.true)
 pub loop-v-preserved : goal.loop-v-preserved
 loop-v-preserved c =
     let l = c.loop-v in
-    (omega (arith, l.invariant.1.size, c.loop-v-test.true), rw c.put.ensures (decided-more _ _ _ l.invariant.1 c.loop-v-test.true _ _ c.get.ensures c.pole_of-x.ensures.0))
+    (omega (arith, l.invariant.1.size, c.loop-v-test.true), rw c.put.ensures (decided_more _ _ _ l.invariant.1 c.loop-v-test.true _ _ c.get.ensures c.pole_of-x.ensures.0))
 
 pub shape_of-poles : goal.shape_of-poles
 shape_of-poles c = c.loop-v.invariant.1.size

@@ -5,7 +5,7 @@ use Prim.Native.Nat.{ℕ}
 use native.Mathlib.Omega.{arith}
 use Rattle.rules.specs.Chart.{drawing}
 use Rattle.rooms.specs.Flags.{Flagged}
-use Rattle.rooms.proofs.Flagging.{second, next-even, head_in, head_more}
+use Rattle.rooms.proofs.Flagging.{second, next_even, head_in, head_more}
 use Rattle.rooms.proofs.mark_heads.Goals as goal
 
 pub loop-d-init : goal.loop-d-init
@@ -33,7 +33,7 @@ loop-d-preserved c =
     let p = c.requires in
     let l = c.loop-d in
     let h = c.loop-d-test.true in
-    let e = next-even p.0 p.1 _ h l.invariant.1 in
+    let e = next_even p.0 p.1 _ h l.invariant.1 in
     let more = head_more p.0 p.1 _ h l.invariant.1 _ l.invariant.2 _ c.event_of-v.ensures _ c.get-x.ensures in
     (e.0, e.1, rw c.put.ensures more)
 

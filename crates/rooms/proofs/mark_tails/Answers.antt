@@ -4,7 +4,7 @@ use Prim.Native.Nat.{ℕ}
 use native.Mathlib.Omega.{arith}
 use Rattle.rules.specs.Chart.{drawing}
 use Rattle.rooms.specs.Flags.{Flagged}
-use Rattle.rooms.proofs.Flagging.{begin, next-even, tail-in, tail_more}
+use Rattle.rooms.proofs.Flagging.{begin, next_even, tail_in, tail_more}
 use Rattle.rooms.proofs.mark_tails.Goals as goal
 
 pub loop-d-init : goal.loop-d-init
@@ -14,14 +14,14 @@ pub put-requires : goal.put-requires
 put-requires c =
     let p = c.requires in
     let l = c.loop-d in
-    (tail-in p.0 p.1 _ c.loop-d-test.true l.invariant.1 _ l.invariant.2 _ c.event_of.ensures, omega arith)
+    (tail_in p.0 p.1 _ c.loop-d-test.true l.invariant.1 _ l.invariant.2 _ c.event_of.ensures, omega arith)
 
 pub loop-d-preserved : goal.loop-d-preserved
 loop-d-preserved c =
     let p = c.requires in
     let l = c.loop-d in
     let h = c.loop-d-test.true in
-    let e = next-even p.0 p.1 _ h l.invariant.1 in
+    let e = next_even p.0 p.1 _ h l.invariant.1 in
     (e.0, e.1, rw c.put.ensures (tail_more p.0 p.1 _ h l.invariant.1 _ l.invariant.2 _ c.event_of.ensures))
 
 pub shape_of-poles : goal.shape_of-poles

@@ -3,8 +3,8 @@ use mathlib.Core.Path.{refl, ap, ◌∙◌}
 use native.Mathlib.Omega.{arith}
 use Rattle.drawing.specs.Drawing.{event}
 use Rattle.rules.specs.Chart.{drawing}
-use Rattle.placing.proofs.Boards.{here-into}
-use Rattle.search.proofs.Near.{near_none, near-some}
+use Rattle.placing.proofs.Boards.{here_into}
+use Rattle.search.proofs.Near.{near_none, near_some}
 use Rattle.search.proofs.room_near.Goals as goal
 
 pub loop-k-init : goal.loop-k-init
@@ -17,12 +17,12 @@ pub get-requires-in-loop-k : goal.get-requires-in-loop-k
 get-requires-in-loop-k c =
     let pre = c.requires in
     let l = c.loop-k in
-    omega (arith, c.get.ensures, here-into pre.0.board l.c (omega (arith, l.invariant.0, pre.0.shape.darts)), pre.1)
+    omega (arith, c.get.ensures, here_into pre.0.board l.c (omega (arith, l.invariant.0, pre.0.shape.darts)), pre.1)
 
 pub returns-then-get-ge1 : goal.returns-then-get-ge1
 returns-then-get-ge1 c =
     let l = c.loop-k in
-    near-some (omega (arith, l.invariant.0, c.requires.0.shape.darts)) l.invariant.1 c.get.ensures c.get-in-loop-k.ensures c.if-get-ge1.true
+    near_some (omega (arith, l.invariant.0, c.requires.0.shape.darts)) l.invariant.1 c.get.ensures c.get-in-loop-k.ensures c.if-get-ge1.true
 
 pub next_of-c-requires : goal.next_of-c-requires
 next_of-c-requires c = (c.requires.0.shape, c.loop-k.invariant.0)

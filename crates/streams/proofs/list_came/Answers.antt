@@ -4,7 +4,7 @@ use mathlib.Core.Path.{◌≡◌, refl, sym, ap}
 use native.Mathlib.Omega.{arith}
 use Rattle.streams.specs.declared.Ending.{Ending}
 use Rattle.streams.specs.Endings.{ending_of, Ended}
-use Rattle.streams.proofs.Came.{came-within}
+use Rattle.streams.proofs.Came.{came_within}
 use Rattle.streams.proofs.Closing.{unread, answered}
 use Rattle.streams.proofs.list_came.Goals as goal
 use Rattle.streams.proofs.list_came.Goals.{After-write_listing}
@@ -20,7 +20,7 @@ pub returns-in_default : goal.returns-in_default
 returns-in_default c = let a = c.args in unread a.came a.room.now a.text.now _ c.in_default.is refl
 
 pub slice_bounds-write_listing-end : goal.slice_bounds-write_listing-end
-slice_bounds-write_listing-end c = omega (arith, came-within _ _ _ _ c.in-Bytes.is c.requires)
+slice_bounds-write_listing-end c = omega (arith, came_within _ _ _ _ c.in-Bytes.is c.requires)
 
 pub returns-then-write_listing : goal.returns-then-write_listing
 returns-then-write_listing c = closed (goal.at.returns-then-write_listing c).After-write_listing _ (sym (ap ending_of c.if-write_listing.true))

@@ -4,7 +4,7 @@ use mathlib.Core.Logic.{inl, inr}
 use Prim.Native.Nat.{ℕ, ◌<◌}
 use native.Mathlib.Omega.{arith}
 use lib.ListN.{length, replicate, length-set}
-use Rattle.survey.proofs.Evidence.{some-mixed, first-set}
+use Rattle.survey.proofs.Evidence.{some_mixed, first_set}
 use Rattle.survey.proofs.climb_fault.Goals as goal
 
 pub returns-then-m-lt65535 : goal.returns-then-m-lt65535
@@ -14,8 +14,8 @@ returns-then-m-lt65535 c =
     let w = c.put.ensures in
     let some : 0 < length c.args.list.now = omega (arith, p.1.1.1.0, p.0.events, p.0.shape.events) in
     record {
-      given = inl (some-mixed _ _ M.1, refl);
-      evidence = λ _. (rw (w, length-set) (omega (arith, some)), rw w (first-set c.args.list.now _ some ∙ sym M.1));
+      given = inl (some_mixed _ _ M.1, refl);
+      evidence = λ _. (rw (w, length-set) (omega (arith, some)), rw w (first_set c.args.list.now _ some ∙ sym M.1));
     }
 
 pub find_circle-k-requires : goal.find_circle-k-requires

@@ -2,10 +2,10 @@
 use mathlib.Core.Path.{refl}
 use mathlib.Core.Logic.{inl, inr}
 use native.Mathlib.Omega.{arith}
-use Rattle.finite.proofs.Yes.{says-still, says-unless}
+use Rattle.finite.proofs.Yes.{says_still, says_unless}
 use Rattle.rules.specs.Chart.{drawing}
-use Rattle.chart.proofs.Keys.{faces-few}
-use Rattle.faces.proofs.Euler.{planar-says}
+use Rattle.chart.proofs.Keys.{faces_few}
+use Rattle.faces.proofs.Euler.{planar_says}
 use Rattle.survey.proofs.face_fault.Goals as goal
 
 pub face_walk-f-requires : goal.face_walk-f-requires
@@ -18,16 +18,16 @@ is_planar-requires c =
     let F = c.requires.0 in (
       F.shape.few,
       omega (arith, F.events, F.shape.events),
-      omega (arith, c.face_walk-f.ensures.1, faces-few (drawing c.args.chart.now), F.shape.few, F.shape.darts),
+      omega (arith, c.face_walk-f.ensures.1, faces_few (drawing c.args.chart.now), F.shape.few, F.shape.darts),
     )
 
 pub returns-then-not-is_planar : goal.returns-then-not-is_planar
 returns-then-not-is_planar c =
     let F = c.requires.0 in
     let r = c.is_planar in
-    let says = planar-says _ _ _ _ r.result F.shape F.events c.face_walk-f.ensures.1 r.ensures in
+    let says = planar_says _ _ _ _ r.result F.shape F.events c.face_walk-f.ensures.1 r.ensures in
     record {
-      given = inl (says-unless r.result c.if-not-is_planar.true-raw says, refl);
+      given = inl (says_unless r.result c.if-not-is_planar.true-raw says, refl);
       keyed = λ e. absurd (omega (arith, e));
       switched = λ e. absurd (omega (arith, e));
     }
@@ -37,5 +37,5 @@ returns c =
     let F = c.requires.0 in
     let r = c.is_planar in
     let w = c.face_walk-f.ensures in
-    let says = planar-says _ _ _ _ r.result F.shape F.events w.1 r.ensures in
-    record { given = inr (says-still r.result c.if-not-is_planar.false-raw says, refl); keyed = λ e. w.0; switched = λ e. w.2 }
+    let says = planar_says _ _ _ _ r.result F.shape F.events w.1 r.ensures in
+    record { given = inr (says_still r.result c.if-not-is_planar.false-raw says, refl); keyed = λ e. w.0; switched = λ e. w.2 }

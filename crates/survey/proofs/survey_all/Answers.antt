@@ -2,7 +2,7 @@
 --   zero       what holds there
 use mathlib.Core.Path.{◌≡◌, ◌∙◌}
 use native.Mathlib.Omega.{arith}
-use Rattle.rules.proofs.Chain.{given-append, given-left}
+use Rattle.rules.proofs.Chain.{given_append, given_left}
 use Rattle.survey.specs.Past.{order_tests, later_tests}
 use Rattle.survey.proofs.Passing.{order_small, at_zero}
 use Rattle.survey.proofs.survey_all.Goals as goal
@@ -21,7 +21,7 @@ returns-then-fault-ge1 c =
     let R = c.order_fault-fault.ensures in
     let small = order_small _ _ R.given in
     record {
-      given = given-left order_tests later_tests _ 0 _ (λ e. omega (arith, c.if-fault-ge1.true)) R.given;
+      given = given_left order_tests later_tests _ 0 _ (λ e. omega (arith, c.if-fault-ge1.true)) R.given;
       keyed = λ e. absurd (omega (arith, c.if-fault-ge1.true));
       switched = λ e. absurd (omega (arith, c.if-fault-ge1.true));
       evidence = λ l. absurd (omega (arith, small));
@@ -37,7 +37,7 @@ returns c =
     let R = c.order_fault-fault.ensures in
     let K = c.survey_later.ensures in
     record {
-      given = given-append order_tests later_tests _ 0 _ (at_zero order_tests _ _ (zero (goal.at.returns c).Else-fault-ge1) R.given) K.given;
+      given = given_append order_tests later_tests _ 0 _ (at_zero order_tests _ _ (zero (goal.at.returns c).Else-fault-ge1) R.given) K.given;
       keyed = K.keyed;
       switched = K.switched;
       evidence = K.evidence;
