@@ -13,7 +13,7 @@ ghost use Rattle.survey.specs.Past.{order_tests, Formed, Clear};
 ghost use Rattle.findings.specs.Stretch.{last_tests, past_tests};
 
 // The number given, and how many bytes of the report are written.
-#[derive(Drop)]
+#[derive(Clone, Copy)]
 pub struct Finding {
     pub number: usize,
     pub written: usize,

@@ -14,21 +14,21 @@ ghost use Rattle.survey.specs.Past.{Formed, Unused, Clear};
 ghost use Rattle.judge.specs.Verdicts.{Answered, Reported};
 
 // The chart's refusal, with its number: a fault of the file, 2 to 8, or of the drawing in it, 9 to 13.
-#[derive(Drop)]
+#[derive(Clone, Copy)]
 pub enum Refusal {
     File(usize),
     Drawn(usize),
 }
 
 // The report's own fault, with its number: J2 of its form, or J3 or J4 of its evidence.
-#[derive(Drop)]
+#[derive(Clone, Copy)]
 pub enum Fault {
     Form(usize),
     Evidence(usize),
 }
 
 // The labels hold (J0), the cut holds (J1), or what is wrong.
-#[derive(Drop)]
+#[derive(Clone, Copy)]
 pub enum Verdict {
     LabelsHold,
     CutHolds,

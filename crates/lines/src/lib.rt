@@ -12,7 +12,7 @@ ghost use Rattle.lines.specs.Kinds.{Follows};
 ghost use Rattle.lines.specs.Printed.{listing_room, Reported, Printed};
 
 // The kind of lines that follow the first.
-#[derive(Drop)]
+#[derive(Clone, Copy)]
 enum Kind {
     Corners,
     Events,
@@ -87,7 +87,7 @@ fn put_pair(out: &mut [u8], at: usize, v: usize, c: usize) -> usize
 // ---- the first line
 
 // The place after the text, and the kind of lines that follow it.
-#[derive(Drop)]
+#[derive(Clone, Copy)]
 struct Head {
     end: usize,
     kind: Kind,

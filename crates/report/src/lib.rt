@@ -7,7 +7,7 @@ ghost use Rattle.rules.specs.Report.{writes as written, entry as entry_bytes, is
 ghost use Rattle.report.specs.Headers.{formed, body_place, header, Listed};
 
 // What stands in the header: the result and the count, or a bad form.
-#[derive(Drop)]
+#[derive(Clone, Copy)]
 pub enum Header {
     Good(usize, usize),
     Bad,

@@ -77,7 +77,7 @@ fn push(
 }
 
 // The queue's end, and after how many steps the ring came back; 0 if it did not within as many as were left.
-#[derive(Drop)]
+#[derive(Clone, Copy)]
 struct Lap {
     tail: usize,
     steps: usize,

@@ -147,7 +147,7 @@ fn scan(
 }
 
 // Where a search stopped: the place of the list whose face has room, or 65535, and the end of the list.
-#[derive(Drop)]
+#[derive(Clone, Copy)]
 struct Stop {
     at: usize,
     end: usize,

@@ -16,21 +16,21 @@ use std::io::{Read, Write};
 use std::os::fd::AsRawFd;
 
 // How many bytes came, or that a read failed.
-#[derive(Drop)]
+#[derive(Clone, Copy)]
 pub enum Input {
     Bytes(usize),
     Failed,
 }
 
 // So many bytes have come and there may be more, or the input is read.
-#[derive(Drop)]
+#[derive(Clone, Copy)]
 enum Step {
     On(usize),
     Done(Input),
 }
 
 // The listing is written, the input could not be read, or the listing could not be written.
-#[derive(Drop)]
+#[derive(Clone, Copy)]
 pub enum Ending {
     AllWritten,
     NotRead,

@@ -11,7 +11,7 @@ ghost use Rattle.chart.specs.Held.{Firsts};
 ghost use Rattle.survey.specs.Past.{order_tests, Formed, Unused, Past, Clear, Ordered, Faced, Climbed, Later, Surveyed};
 
 // The fault, or 0; for 12 and 13 how many entries its evidence has.
-#[derive(Drop)]
+#[derive(Clone, Copy)]
 pub struct Survey {
     pub fault: usize,
     pub count: usize,
