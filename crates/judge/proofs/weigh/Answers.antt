@@ -28,7 +28,7 @@ returns-then-count-n c =
     let g = drawing a.chart.now in
     let S = c.requires.0.formed.shape in
     let read : good r n ≡ form a.report.now = sym (ap formed c.in-Good.is) ∙ c.form_of-header.ensures in
-    (2, other_count g a.report.now r n read c.if-result-eq0.true (λ e. c.if-count-n.true (e ∙ sym S.darts)), refl)
+    (2, other_count g a.report.now r n read c.if-result-eq0.true (λ e. omega (arith, e, S.darts, c.if-count-n.true)), refl)
 
 pub labels_right-requires : goal.labels_right-requires
 labels_right-requires c =
