@@ -1,4 +1,4 @@
-// The entries for programs in C and Rust: numbers and byte slices only. A slice passes as a pointer and a length.
+// The calls for programs in C and Rust: numbers and byte slices only. `export_c` has them under their names in C.
 #![tactic(auto)]
 
 ghost use Rattle.std.specs.Prelude.{◌≡◌, ◌<◌};
@@ -7,8 +7,7 @@ ghost use Rattle.judge.specs.Verdicts.{refusal_of, fault_of, verdict_of};
 ghost use Rattle.export.specs.Packed.{Tested, pack_form, pack_body, pack_verdict, Weighed};
 
 // Tests a chart: number * 65536 + bytes written.
-#[unsafe(no_mangle)]
-pub extern "C" fn rinsholupe_test(chart: &[u8], report: &mut [u8]) -> u32
+pub fn rinsholupe_test(chart: &[u8], report: &mut [u8]) -> u32
     ensures { Tested chart.now report.old result report.new }
 {
     let answer = desk::test_chart(chart, report);
@@ -18,8 +17,7 @@ pub extern "C" fn rinsholupe_test(chart: &[u8], report: &mut [u8]) -> u32
 }
 
 // Reads a report's header: result * 65536 + count, or 4294967295 for bad form.
-#[unsafe(no_mangle)]
-pub extern "C" fn rinsholupe_form(report: &[u8]) -> u32
+pub fn rinsholupe_form(report: &[u8]) -> u32
     ensures { result ≡ pack_form (form report.now) }
 {
     let header = report::form_of(report);
@@ -30,8 +28,7 @@ pub extern "C" fn rinsholupe_form(report: &[u8]) -> u32
 }
 
 // Where a report's body lies: start * 4294967296 + length.
-#[unsafe(no_mangle)]
-pub extern "C" fn rinsholupe_body(report: &[u8]) -> u64
+pub fn rinsholupe_body(report: &[u8]) -> u64
     ensures { result ≡ pack_body report.now }
 {
     let header = report::form_of(report);
@@ -74,8 +71,7 @@ fn verdict_number(v: judge::Verdict) -> u32
 }
 
 // Judges a report of a chart: 0 to 4 for J0 to J4, 65536 + n for the chart's refusal n.
-#[unsafe(no_mangle)]
-pub extern "C" fn rinsholupe_judge(chart: &[u8], report: &[u8]) -> u32
+pub fn rinsholupe_judge(chart: &[u8], report: &[u8]) -> u32
     ensures { Weighed chart.now report.now result }
 {
     let verdict = judge::judge(chart, report);
