@@ -1,5 +1,5 @@
 -- What the tests 2 to 8 leave of a chart. Assumes nothing.
-use mathlib.Core.Path.{◌≡◌, sym}
+use mathlib.Core.Path.{sym}
 use mathlib.Core.List.{List, [], ◌∷◌}
 use Prim.Native.Nat.{ℕ, ◌*◌}
 use native.Mathlib.Omega.{arith}
@@ -35,7 +35,3 @@ given_formed s g =
     let k = given_first unknown (own ∷ outer ∷ []) s 0 h.1 in
     let o = given_first own (outer ∷ []) s 0 k.1 in
     record { shape = given_shape s h.0; known = k.0; own = o.0; outer = (given_first outer [] s 0 o.1).0 }
-
--- the shape, where the number of darts has a name
-pub formed_shape : (s : List ℕ) (n : ℕ) → Sound s → n ≡ 2 * arrows_in s → Shape s n
-formed_shape s n f e = rw e f.shape

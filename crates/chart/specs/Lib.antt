@@ -1,3 +1,5 @@
 pub mod Shape
 pub mod Form
 pub mod Held
+pub mod Faults
+pub mod Charts

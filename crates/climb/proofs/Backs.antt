@@ -3,22 +3,24 @@
 --   Lowered g into s c best    on the way back from s to c, best has the lowest arrow
 use mathlib.Core.Path.{◌≡◌, refl, sym, ap, ◌∙◌}
 use mathlib.Core.Logic.{◌≢◌, inl, inr}
-use mathlib.Core.List.{List}
+use mathlib.Core.List.{List, ◌++◌}
 use Prim.Native.Nat.{ℕ, zero, suc, ◌+◌, ◌-◌, ◌*◌, ◌<◌, ◌≤◌}
 use native.Mathlib.Decide.{ℕ_discrete, dec_lt}
 use native.Mathlib.Numerals.{add-one}
 use native.Mathlib.Omega.{arith}
 use borrow.Author.Count.{below_more}
-use lib.ListN.{length, set, take, length-set}
-use lib.Seq.{get_or-set_same, get_or-set_other, get_or-take, length-take-le}
+use lib.ListN.{length, set, take, length-set, length-append}
+use lib.Seq.{get_or-set_same, get_or-set_other}
 use Rattle.finite.specs.Steps.{iter}
 use Rattle.finite.proofs.Perm.{inj_le}
 use Rattle.finite.proofs.Orbit.{iter-add, cycle, fresh_inj}
 use Rattle.finite.proofs.Walk.{Walk, walk_start, walk_step}
 use Rattle.drawing.specs.Drawing.{Drawing, arrows, tail, head}
-use Rattle.drawing.specs.Conditions.{EventsKnown, NoCircle}
+use Rattle.drawing.specs.Conditions.{EventsKnown}
 use Rattle.drawing.proofs.Climb.{back, before, Enters, Turning, Turn, Lowest, first_turn, turning_before, far_turns, turn_circle, turn-lowest}
 use Rattle.words.specs.Tables.{nth}
+use Rattle.std.specs.Prelude.{Some}
+use Rattle.std.proofs.lemmas.List.{take_at}
 use Rattle.climb.specs.Evidence.{CircleFound}
 use Rattle.climb.specs.Back.{Kept, Entering, live, dead, Chosen, Lower, Written}
 use Rattle.finite.proofs.Ahead.{ahead, nearer}
@@ -32,9 +34,6 @@ Good g left into v = Enters g (nth into) v × (0 < nth left (back g (nth into) v
 pub record Looked (g : Drawing) (left into : List ℕ) (a e : ℕ) : Type 0 where
   pub size : length into ≡ g.events
   pub each : (b : ℕ) → b < a → 0 < nth left (tail g b) → 0 < nth left (head g b) → Good g left into (head g b) × ((e < g.events) × (0 < nth left e))
-
-pub looked_start : (g : Drawing) (left into : List ℕ) → length into ≡ g.events → Looked g left into 0 0
-looked_start g left into q = record { size = q; each = λ b l. absurd (omega arith) }
 
 module _ (g : Drawing) (left into : List ℕ) (a e : ℕ) (L : Looked g left into a e) where
   pub looked_step : EventsKnown g → a < arrows g → (into' : List ℕ) (e' : ℕ) → Entering g left into a e into' e' → Looked g left into' (a + 1) e'
@@ -114,12 +113,6 @@ module _ (g : Drawing) (known : EventsKnown g) (into : List ℕ) (s : ℕ) (T : 
       let h = known (2 * nth into (before g (nth into) s k) + 1) (let a = t.0 in omega (arith, a)) in
       omega (arith, h, t.1)
 
-  pub turn_at : (k c : ℕ) → Walk p s k c → Enters g (nth into) c × (c < g.events)
-  turn_at k c W = rw W.here (T.each k, turning_small k)
-
-  pub turn_next : (k c e : ℕ) → Walk p s k c → e ≡ p c → e < g.events
-  turn_next k c e W q = let t = (turn_at k c W).0.0 in rw q (known (2 * nth into c) (omega (arith, t)))
-
   turn_few : (m : ℕ) → Turn g (nth into) s m → m ≤ g.events
   turn_few m U = inj_le m g.events (before g (nth into) s) (fresh_inj p s m U.returns U.fresh) (λ k l. turning_small k)
 
@@ -170,9 +163,6 @@ lowered_start g into s = record {
 }
 
 module _ (g : Drawing) (known : EventsKnown g) (into : List ℕ) (s c best : ℕ) (T : Turning g (nth into) s) (L : Lowered g into s c best) where
-  pub best_small : best < g.events
-  best_small = rw L.met.1 (turning_small g known into s T L.met.0)
-
   module _ (e : ℕ) (q : e ≡ back g (nth into) c) where
     pub lowered_step : e ≢ s → (best' : ℕ) → Lower into best e best' → Lowered g into s e best'
     unfolding iter
@@ -206,66 +196,46 @@ module _ (g : Drawing) (known : EventsKnown g) (into : List ℕ) (s c best : ℕ
 
 -- ---- the arrows written, from the last to the first
 
-pub record Writing (g : Drawing) (into : List ℕ) (s m n : ℕ) (out : List ℕ) (i e : ℕ) : Type 0 where
+pub record Writing (g : Drawing) (into : List ℕ) (s n : ℕ) (out : List ℕ) (i e : ℕ) : Type 0 where
   pub size : length out ≡ n
-  pub rest : i ≤ m
-  pub here : e ≡ before g (nth into) s (m - i)
-  pub each : (j : ℕ) → i ≤ j → j < m → nth out j ≡ nth into (before g (nth into) s (m - j))
+  pub rest : i ≤ n
+  pub here : e ≡ before g (nth into) s (n - i)
+  pub each : (j : ℕ) → i ≤ j → j < n → nth out j ≡ nth into (before g (nth into) s (n - j))
 
-pub writing_start : (g : Drawing) (into : List ℕ) (s m : ℕ) (out : List ℕ) → Writing g into s m (length out) out m s
+pub writing_start : (g : Drawing) (into : List ℕ) (s : ℕ) (out : List ℕ) → Writing g into s (length out) out (length out) s
 unfolding iter
-writing_start g into s m out =
-    let z : m - m ≡ 0 = omega arith in
+writing_start g into s out =
+    let n : ℕ = length out in
+    let z : n - n ≡ 0 = omega arith in
     record { size = refl; rest = omega arith; here = rw z refl; each = λ j a b. absurd (omega arith) }
 
-module _ (g : Drawing) (into : List ℕ) (s m n : ℕ) (out : List ℕ) (i e : ℕ) (W : Writing g into s m n out i e) where
-  pub writing_step : 0 < i → m ≤ n → (e' x : ℕ) → e' ≡ back g (nth into) e → x ≡ nth into e' → Writing g into s m n (set out (i - 1) x) (i - 1) e'
+module _ (g : Drawing) (into : List ℕ) (s n : ℕ) (out : List ℕ) (i e : ℕ) (W : Writing g into s n out i e) where
+  pub writing_step : 0 < i → (e' : ℕ) → e' ≡ back g (nth into) e → Writing g into s n (set out (i - 1) (nth into e')) (i - 1) e'
   unfolding iter
-  writing_step some room e' x q r =
-      let next : m - (i - 1) ≡ suc (m - i) = omega (arith, W.rest) in
-      let at : e' ≡ before g (nth into) s (m - (i - 1)) = q ∙ ap (back g (nth into)) W.here ∙ ap (before g (nth into) s) (sym next) in
+  writing_step some e' q =
+      let x : ℕ = nth into e' in
+      let next : n - (i - 1) ≡ suc (n - i) = omega (arith, W.rest) in
+      let at : e' ≡ before g (nth into) s (n - (i - 1)) = q ∙ ap (back g (nth into)) W.here ∙ ap (before g (nth into) s) (sym next) in
       record {
         size = length-set out (i - 1) x ∙ W.size;
         rest = omega (arith, W.rest);
         here = at;
         each = λ j a b. elim (ℕ_discrete j (i - 1)) [
-          | yes z ↦ rw z (get_or-set_same out (i - 1) x 0 (omega (arith, W.size)) ∙ r ∙ ap (nth into) at)
+          | yes z ↦ rw z (get_or-set_same out (i - 1) x 0 (omega (arith, W.size, W.rest)) ∙ ap (nth into) at)
           | no z ↦ get_or-set_other out (i - 1) j x 0 z ∙ W.each j (omega arith) b
         ];
       }
 
-  module _ (known : EventsKnown g) (T : Turn g (nth into) s m) where
-    there : (k : ℕ) → Enters g (nth into) (before g (nth into) s k) × (before g (nth into) s k < g.events)
-    there k =
-        let t = T.each k in
-        let a = t.0 in
-        (t, omega (arith, known (2 * nth into (before g (nth into) s k) + 1) (omega (arith, a)), t.1))
-
-    pub writing_at : Enters g (nth into) e × (e < g.events)
-    writing_at = rw W.here (there (m - i))
-
-    pub writing_next : (e' : ℕ) → e' ≡ back g (nth into) e → Enters g (nth into) e' × (e' < g.events)
-    unfolding iter
-    writing_next e' q = rw (q, W.here) (there (suc (m - i)))
-
-  pub writing_done : i ≡ 0 → m ≤ n → Written g into s m out
-  writing_done z room = record { room = omega (arith, W.size); each = λ j b. W.each j (omega arith) b }
-
-pub circle_found : (g : Drawing) (into out : List ℕ) (s m : ℕ) → Turn g (nth into) s m → Lowest g (nth into) s → Written g into s m out → CircleFound g out m
-circle_found g into out s m T low W = record {
-  none = λ z. absurd (omega (arith, T.some));
-  some = λ pos. (
-    W.room,
-    turn_circle g (nth into) s m T (take m out) size entry,
-    turn-lowest g (nth into) s m T (take m out) size entry low,
-  );
-}
+-- the arrows stand at the front of the table out ++ rest
+pub circle_found : (g : Drawing) (into out rest : List ℕ) (s m : ℕ) → length out ≡ m → Turn g (nth into) s m → Lowest g (nth into) s → Written g into s out
+    → CircleFound g (out ++ rest) (Some m)
+circle_found g into out rest s m size T low W =
+    let front : take m (out ++ rest) ≡ out = take_at out rest m size in (
+      T.some,
+      omega (arith, length-append out rest),
+      rw front (turn_circle g (nth into) s m T out size entry),
+      rw front (turn-lowest g (nth into) s m T out size entry low),
+    )
   where
-    size : length (take m out) ≡ m
-    size = length-take-le m out W.room
-
-    entry : (i : ℕ) → i < m → nth (take m out) i ≡ nth into (before g (nth into) s (m - i))
-    entry i l = get_or-take m out i 0 l ∙ W.each i l
-
-pub circle_none : (g : Drawing) (out : List ℕ) → NoCircle g → CircleFound g out 0
-circle_none g out none = record { none = λ z. none; some = λ pos. absurd (omega arith) }
+    entry : (i : ℕ) → i < m → nth out i ≡ nth into (before g (nth into) s (m - i))
+    entry = rw size at W

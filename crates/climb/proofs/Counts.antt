@@ -3,7 +3,7 @@
 --   Upto left list v t      the first t entries of list are the events below v with 0 in left, each once
 use mathlib.Core.Path.{◌≡◌, sym, ap, ◌∙◌}
 use mathlib.Core.List.{List}
-use Prim.Native.Nat.{ℕ, suc, ◌+◌, ◌*◌, ◌%◌, ◌<◌, ◌≤◌}
+use Prim.Native.Nat.{ℕ, suc, ◌+◌, ◌*◌, ◌<◌, ◌≤◌}
 use native.Mathlib.Decide.{ℕ_discrete}
 use native.Mathlib.Omega.{arith}
 use borrow.Author.Count.{below_more}
@@ -51,11 +51,6 @@ module _ (g : Drawing) (left : List ℕ) (a : ℕ) (T : Tallied g left a) where
     ];
   }
 
-  pub tallied_done : darts g % 2 ≡ 0 → arrows g ≡ a → Counted g left
-  tallied_done even q =
-      let e : 2 * a ≡ darts g = omega arith in
-      record { size = T.size; each = λ v l. T.each v l ∙ ap (λ (k : ℕ). sum k (toward g v)) e }
-
 -- ---- the events that no arrow enters
 
 pub record Upto (left list : List ℕ) (v t : ℕ) : Type 0 where
@@ -64,15 +59,6 @@ pub record Upto (left list : List ℕ) (v t : ℕ) : Type 0 where
   pub once : Inj t (nth list)
   pub gone : (i : ℕ) → i < t → nth left (nth list i) ≡ 0
   pub found : (u : ℕ) → u < v → nth left u ≡ 0 → (i : ℕ) × (i < t) × (nth list i ≡ u)
-
-pub upto_start : (left list : List ℕ) → length list ≡ length left → Upto left list 0 0
-upto_start left list q = record {
-  room = q;
-  inside = λ i l. absurd (omega arith);
-  once = λ i j a b. absurd (omega arith);
-  gone = λ i l. absurd (omega arith);
-  found = λ u l. absurd (omega arith);
-}
 
 module _ (left list : List ℕ) (v t : ℕ) (U : Upto left list v t) where
   pub upto_few : t ≤ v
@@ -106,15 +92,6 @@ module _ (left list : List ℕ) (v t : ℕ) (U : Upto left list v t) where
         found = below_more (λ (u : ℕ). nth left u ≡ 0 → (i : ℕ) × (i < t + 1) × (nth new i ≡ u)) v
             (λ u h w. let f = U.found u h w in let k : f.0 < t = f.1 in (f.0, omega arith, old f.0 k ∙ f.2)) (λ w. (t, omega arith, end));
       }
-
-  pub upto_done : length left ≡ v → Waiting left list t
-  upto_done q = record {
-    room = U.room;
-    inside = λ i l. omega (arith, U.inside i l);
-    once = U.once;
-    gone = U.gone;
-    found = λ u l z. U.found u (omega arith) z;
-  }
 
 pub peeled_start : (g : Drawing) (left list : List ℕ) (t : ℕ) → EventsKnown g → Counted g left → Waiting left list t → Peeled g left list 0 t
 unfolding sum

@@ -11,9 +11,10 @@ use Rattle.finite.specs.Sums.{below}
 use Rattle.finite.proofs.Decide.{nil≢cons}
 use Rattle.finite.proofs.Lists.{below_none}
 use Rattle.drawing.specs.Drawing.{Drawing, event, changes, mixed, mixed_events}
-use Rattle.words.specs.Tables.{nth}
 use Rattle.chart.specs.Held.{Firsts}
 use Rattle.climb.specs.Evidence.{LowestMixed}
+use Rattle.std.specs.Prelude.{Option, None, Some, MatchOption, length}
+use Rattle.std.specs.List.{AllWithin, HoldsAt}
 
 take_kept : (l m : List ℕ) (x : ℕ) → take 1 l ≡ x ∷ [] → take 1 (l ++ m) ≡ x ∷ []
 take_kept [] m x q = absurd (nil≢cons q)
@@ -30,18 +31,27 @@ below_first (suc n) p v l q h = elim (ℕ_discrete v n) [
   | no e ↦ take_kept (below n p) (cond (p n) (n ∷ []) []) v (below_first n p v (omega arith) q h)
 ]
 
-module _ (g : Drawing) (few : g.events ≤ 1024) where
-  pub found : (v : ℕ) → v < g.events → 2 < changes g v → ((u : ℕ) → u < v → changes g u ≤ 2) → LowestMixed g v
+-- dart d is of a mixed event, or is not
+abbrev pub Turns : Drawing → ℕ → Type 0
+Turns g d = 2 < changes g (event g d)
+
+abbrev pub Plain : Drawing → ℕ → Type 0
+Plain g d = changes g (event g d) ≤ 2
+
+module _ (g : Drawing) (first : List ℕ) (F : Firsts g first) where
+  -- the dart that stands at an event is one of it
+  plain : (v : ℕ) → v ≤ g.events → AllWithin (Plain g) first 0 v → (u : ℕ) → u < v → changes g u ≤ 2
+  plain v l h u k = rw (F.each u (omega arith)) at (h u 0 (omega arith) k)
+
+  -- a search over the darts of the events, in their order
+  pub lowest : (r : Option ℕ) → MatchOption r (AllWithin (Plain g) first 0 (length first)) (λ v. (v < length first) × HoldsAt (Turns g) first v × AllWithin (Plain g) first 0 v)
+      → LowestMixed g r
   unfolding mixed_events
-  found v l more h = record {
-    small = omega arith;
-    none = λ big. absurd (omega arith);
-    some = λ s. (l, below_first g.events (mixed g) v l (lt-ltb 2 (changes g v) more) (λ u k. le-ltb 2 (changes g u) (h u k)));
-  }
-
-  pub none : (v : ℕ) → g.events ≤ v → ((u : ℕ) → u < v → changes g u ≤ 2) → LowestMixed g 65535
-  none v all h = record { small = omega arith; none = λ b u l. h u (omega arith); some = λ s. absurd (omega arith) }
-
--- the dart that stands at an event is one of it
-pub first_event : (g : Drawing) (first : List ℕ) (v d : ℕ) → Firsts g first → v < g.events → d ≡ nth first v → event g d ≡ v
-first_event g first v d F l q = ap (event g) q ∙ F.each v l
+  lowest None h = λ u l. plain (length first) (omega (arith, F.size)) h u (omega (arith, F.size))
+  lowest (Some v) (l, m, h) =
+      let k : v < g.events = omega (arith, F.size) in (
+        k,
+        below_first g.events (mixed g) v k
+            (lt-ltb 2 (changes g v) (rw (F.each v k) at (m 0)))
+            (λ u j. le-ltb 2 (changes g u) (plain v (omega arith) h u j)),
+      )

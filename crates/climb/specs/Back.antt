@@ -3,7 +3,7 @@
 --   Entering g left into a ..    what becomes of the table into and the event last where arrow a is looked at
 --   Chosen g left into e         into has for each event with arrows left such an arrow; and e has arrows left
 --   Lower into a b r             r is one of the events a and b, and has the lower arrow in into
---   Written g into s m out       out has the m arrows of the turn back from s, in order
+--   Written g into s out         out has the arrows of the way back from s, the one that enters s first
 use Rattle.std.specs.Prelude.{◌≡◌, ◌⊎◌, List, ℕ, ◌-◌, ◌≤◌, ◌<◌, length, set}
 use Rattle.drawing.specs.Drawing.{Drawing, arrows, tail, head}
 use Rattle.drawing.proofs.Climb.{back, before, Enters}
@@ -28,6 +28,5 @@ pub record Lower (into : List ℕ) (a b r : ℕ) : Type 0 where
   pub first : nth into r ≤ nth into a
   pub second : nth into r ≤ nth into b
 
-pub record Written (g : Drawing) (into : List ℕ) (s m : ℕ) (out : List ℕ) : Type 0 where
-  pub room : m ≤ length out
-  pub each : (i : ℕ) → i < m → nth out i ≡ nth into (before g (nth into) s (m - i))
+abbrev pub Written : Drawing → List ℕ → ℕ → List ℕ → Type 0
+Written g into s out = (i : ℕ) → i < length out → nth out i ≡ nth into (before g (nth into) s (length out - i))

@@ -1,10 +1,10 @@
 -- A run of the test, and then of the judge on what it wrote. Assumes nothing.
 --   stretch_within      the stretch written lies within the report
 --   run_confirmed       the judge's answer to it is what `Confirmed` says
-use mathlib.Core.Path.{◌≡◌, ap, subst, ◌∙◌}
+use mathlib.Core.Path.{◌≡◌, ap, ◌∙◌}
 use mathlib.Core.Logic.{◌⊎◌, inl, inr}
 use mathlib.Core.List.{List}
-use Prim.Native.Nat.{ℕ, ◌-◌, ◌≤◌}
+use Prim.Native.Nat.{ℕ, ◌≤◌}
 use native.Mathlib.Omega.{arith}
 use lib.ListN.{length, take, drop, length-append}
 use Rattle.rules.specs.Report.{Outcome, report}
@@ -24,15 +24,11 @@ module _ (s r : List ℕ) (n w : ℕ) (r' : List ℕ) (O : Outcome s r n w r') w
   pub stretch_within : w ≤ length r'
   stretch_within = omega (arith, O.written, ap length O.left, length-append (report n O.entries) (drop w r))
 
-  -- the judge reads the part from 0 to w
-  pub run_confirmed : (a : Verdict) → Answered s (take (w - 0) (drop 0 r')) a → Confirmed s r r' a
-  run_confirmed a j =
-      let e : w - 0 ≡ w = omega arith in
-      let h : Answered s (take w r') a = subst (λ (k : ℕ). Answered s (take k r') a) e j in
-      record {
-        number = n;
-        written = w;
-        outcome = O;
-        answered = h;
-        confirmed = λ g l. said s (take w r') a h (own_confirmed s r n w r' O l g (verdict_of a) h.judged);
-      }
+  pub run_confirmed : (a : Verdict) → Answered s (take w r') a → Confirmed s r r' a
+  run_confirmed a h = record {
+    number = n;
+    written = w;
+    outcome = O;
+    answered = h;
+    confirmed = λ g l. said s (take w r') a h (own_confirmed s r n w r' O l g (verdict_of a) h.judged);
+  }

@@ -9,5 +9,5 @@ pub fn confirm(chart: &[u8], report: &mut [u8]) -> judge::Verdict
 {
     let answer = desk::test_chart(chart, report);
     let w = answer.written;
-    judge::judge(chart, &report[0..w])
+    judge::judge(chart, &report[..w])
 }

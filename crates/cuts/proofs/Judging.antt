@@ -3,16 +3,15 @@
 --   touched_hit    a face is touched by the list exactly if its key is hit by a corner of a marked event
 --   larger_total   a list is larger than its room exactly if it is larger than the room taken out
 --   cut_fit        a cut fits the table of the sources and sinks
---   flags          the table of the sources and sinks has 0 and 1 only
 --   refused        a list that does not fit is no cut
 --   judged         a list that fits is a cut exactly if the room taken out is below its length
-use mathlib.Core.Path.{◌≡◌, refl, sym, ap, subst, ◌∙◌}
+use mathlib.Core.Path.{◌≡◌, sym, ap, subst, ◌∙◌}
 use mathlib.Core.Logic.{◌≢◌, ◌↔◌, ◌⊎◌, inl, inr}
 use mathlib.Core.Bool.{Bool, true, false, cond, ◌&&◌}
 use mathlib.Core.List.{List, [], ◌∷◌}
-use Prim.Native.Nat.{ℕ, zero, suc, ◌+◌, ◌*◌, ◌%◌, ◌<◌, ◌≤◌}
+use Prim.Native.Nat.{ℕ, zero, suc, ◌+◌, ◌*◌, ◌%◌, ◌<◌}
 use native.Mathlib.Omega.{arith}
-use lib.Dec.{T, ltb, ltb→lt, nltb→le}
+use lib.Dec.{T, ltb}
 use lib.IntN.{pos}
 use lib.Signed.{◌<ℤ◌}
 use lib.ListN.{length}
@@ -22,6 +21,7 @@ use Rattle.finite.specs.Says.{Says}
 use Rattle.finite.proofs.Sum.{sum_cong, sum-add, δ-eq, δ_other}
 use Rattle.drawing.specs.Drawing.{Drawing, darts, event, twin, face, faces, is_face, corner_face, room1, pole, touches}
 use Rattle.drawing.specs.Conditions.{EventsKnown, Rings, touched, room_of, Cut}
+use Rattle.finite.proofs.Yes.{says_as, says_lt}
 use Rattle.finite.proofs.Extra.{bit_yes, eqb_cases, or_left, or_right}
 use Rattle.drawing.proofs.Twins.{twin_into}
 use Rattle.drawing.proofs.Faces.{corner_twin}
@@ -30,10 +30,11 @@ use Rattle.drawing.proofs.Signed.{larger_one}
 use Rattle.rules.specs.Chart.{drawing}
 use Rattle.rules.proofs.Bytes.{darts_even}
 use Rattle.words.specs.Tables.{nth}
+use Rattle.chart.specs.Shape.{Shape}
 use Rattle.chart.specs.Held.{Keyed, Poled, Roomed}
 use Rattle.chart.proofs.Keys.{key_of, key_into, key_corner, keys_sum}
 use Rattle.cuts.specs.Tables.{Tables}
-use Rattle.cuts.specs.Marks.{Flags, Fit, Marked, Fitted}
+use Rattle.cuts.specs.Marks.{Fit, Marked}
 use Rattle.cuts.specs.Sweep.{Hit, Swept}
 use Rattle.finite.proofs.Lists.{all_at, all_of}
 
@@ -107,32 +108,20 @@ module _ (g : Drawing) where
         let k : nth l i < g.events = omega (arith, poled.size, a.0) in
         (k, (bit_yes (pole g (nth l i))).1 (sym (poled.each (nth l i) k) ∙ a.1)))
 
-module _ (s : List ℕ) (n : ℕ) (here t s₀ : List ℕ) (z : Tables s n here t s₀) where
-  pub flags : Flags t
-  flags v h = omega (arith, z.poled.each v (omega (arith, z.poled.size)), few (pole (drawing s) v))
-    where
-      few : (b : Bool) → bit b ≤ 1
-      few true = omega arith
-      few false = omega arith
+module _ {s : List ℕ} {n : ℕ} {here t s₀ : List ℕ} (S : Shape s n) (z : Tables (drawing s) here t s₀) where
+  module _ (l q : List ℕ) where
+    pub refused : (Fit t l → ⊥) → Cut (drawing s) l → ⊥
+    refused d c = d (cut_fit (drawing s) t l z.poled c)
 
-  module _ (l q : List ℕ) (b : Bool) (fitted : Fitted b t l q) where
-    pub refused : b ≡ false → Cut (drawing s) l → ⊥
-    refused e c = subst (λ (a : Bool). Fitted a t l q) e fitted (cut_fit (drawing s) t l z.poled c)
-
-    pub judged : b ≡ true → length q ≡ length t → (x : ℕ) (s' : List ℕ) → Swept (drawing s) here q s₀ n x s' → (k : ℕ) → length l ≡ k
+    pub judged : Fit t l × Marked l q → length q ≡ length t → {x : ℕ} {s' : List ℕ} → Swept (drawing s) here q s₀ n x s' → (k : ℕ) → length l ≡ k
         → Says (ltb x k) (Cut (drawing s) l)
-    judged e size x s' swept k long = go (subst (λ (a : Bool). Fitted a t l q) e fitted) (ltb x k) refl
+    judged f size {x} {s'} swept k long =
+        says_as (ltb x k)
+        (λ h. record { ascending = f.0.ascending; poles = fit_poles (drawing s) t l z.poled f.0; larger = larger.1 (omega arith) })
+        (λ c. omega (arith, larger.0 c.larger))
+        (says_lt x k)
       where
-        larger : Marked l q → (room_of (drawing s) l <ℤ pos (length l)) ↔ (x < length l)
-        larger m =
-            larger_total (drawing s) (darts_even s) z.corners.rings z.corners.known here z.corners.keyed l q m (size ∙ z.poled.size) s₀ s' x z.roomed
-            (subst (λ (c : ℕ). Swept (drawing s) here q s₀ c x s') z.corners.shape.darts swept)
-
-        go : Fit t l × Marked l q → (a : Bool) → ltb x k ≡ a → Says a (Cut (drawing s) l)
-        go f true r =
-            record {
-              ascending = f.0.ascending;
-              poles = fit_poles (drawing s) t l z.poled f.0;
-              larger = (larger f.1).1 (omega (arith, long, ltb→lt x k (rw r tt)));
-            }
-        go f false r = λ c. omega (arith, long, (larger f.1).0 c.larger, nltb→le x k (rw r tt))
+        larger : (room_of (drawing s) l <ℤ pos (length l)) ↔ (x < length l)
+        larger =
+            larger_total (drawing s) (darts_even s) z.corners.rings z.corners.known here z.corners.keyed l q f.1 (size ∙ z.poled.size) s₀ s' x z.roomed
+            (subst (λ (c : ℕ). Swept (drawing s) here q s₀ c x s') S.darts swept)

@@ -1,8 +1,9 @@
 -- The first i entries of a list ascend, the table p has 1 at each, and they are marked: the laws of the loop of `list_fits`. Assumes nothing.
 --   Next, reads                 the entry to look at, and how it is read from bytes
---   start, step                 the state at the start, and one entry more
+--   step                        one entry more
 --   done                        after the last entry
---   sinking, unknown, other     an entry that refuses the list: it does not ascend, is no event, or is no source or sink
+--   sinking, other              an entry that refuses the list: it does not ascend, or is no source or sink
+--   says_there                  what the comparison of an entry of a table, if it has one, says
 use mathlib.Core.Path.{◌≡◌, sym, ap, subst, ◌∙◌}
 use mathlib.Core.Logic.{◌≢◌, ◌⊎◌, inl, inr}
 use mathlib.Core.List.{List}
@@ -10,12 +11,20 @@ use Prim.Native.Nat.{ℕ, ◌+◌, ◌*◌, ◌<◌, ◌≤◌}
 use native.Mathlib.Decide.{ℕ_discrete}
 use native.Mathlib.Omega.{arith}
 use borrow.Author.Count.{below_more}
-use lib.ListN.{length, set, length-set}
+use borrow.Author.Tests.{ltb-true, ltb-false}
+use lib.Dec.{eqb, ltb}
+use denote.Ref.{Bor}
+use Rattle.std.proofs.Common.{Option, Some, None}
+use Rattle.std.specs.Option.{is_some, IfSome, option_eq}
+use Rattle.std.proofs.lemmas.List.{get_or_read}
+use Rattle.finite.specs.Says.{Says}
+use Rattle.finite.proofs.Yes.{says_as, says_equal}
+use lib.ListN.{length, set, get_or, length-set}
 use lib.Seq.{get_or-set_same, get_or-set_other}
 use Rattle.rules.specs.Words.{u16, words}
 use Rattle.rules.proofs.Bytes.{words-length, words_at_lem}
 use Rattle.words.specs.Tables.{nth}
-use Rattle.cuts.specs.Marks.{Flags, Fit, Marked}
+use Rattle.cuts.specs.Marks.{Fit, Marked}
 use Rattle.finite.proofs.Lists.{all_at, all_of, ascending_at, ascending_of}
 
 -- q is p with the first i entries of l marked, all below from
@@ -30,6 +39,14 @@ pub record Marking (p l : List ℕ) (q : List ℕ) (from i : ℕ) : Type 0 where
   pub last : (from ≡ 0) ⊎ ((j : ℕ) × (j < i) × (from ≡ nth l j + 1))
   pub above : (v : ℕ) → from ≤ v → nth q v ≡ nth p v
 
+pub says_there : (o : Option (Bor ℕ)) (y : Bor ℕ) (q : List ℕ) (e : ℕ) → is_some o ≡ ltb e (length q) → IfSome o (λ x. x.now ≡ get_or q e x.now)
+    → Says (option_eq (λ (x y : Bor ℕ). eqb x.now y.now) o (Some y)) ((e < length q) × (nth q e ≡ y.now))
+says_there None y q e h r = λ t. omega (arith, ltb-false e (length q) (sym h), t.0)
+says_there (Some x) y q e h r = says_as (eqb x.now y.now) (λ t. (ltb-true e (length q) (sym h), sym at ∙ t)) (λ t. at ∙ t.1) (says_equal x.now y.now)
+  where
+    at : x.now ≡ nth q e
+    at = get_or_read q e x.now (ltb-true e (length q) (sym h)) r 0
+
 -- e is the entry to look at
 abbrev pub Next : List ℕ → ℕ → ℕ → Type 0
 Next l i e = (i < length l) × (e ≡ nth l i)
@@ -38,20 +55,6 @@ pub reads : (s : List ℕ) (count i e : ℕ) → i < count → e ≡ u16 s (2 * 
 reads s count i e h r = (omega (arith, words-length s 0 count), r ∙ ap (u16 s) (omega arith) ∙ sym (words_at_lem s 0 count i h))
 
 module _ (p l : List ℕ) where
-  pub start : Flags p → Marking p l p 0 0
-  start flags =
-      record {
-        size = omega arith;
-        upto = omega arith;
-        ones = λ j h. absurd (omega arith);
-        marks = λ j h. absurd (omega arith);
-        only = λ v h e. absurd (omega (arith, flags v h));
-        ascends = λ j k a b. absurd (omega arith);
-        under = λ j h. absurd (omega arith);
-        last = inl (omega arith);
-        above = λ v h. omega arith;
-      }
-
   module _ (q : List ℕ) (from i : ℕ) (m : Marking p l q from i) where
     pub done : length l ≤ i → Fit p l × Marked l q
     done h = (
@@ -73,15 +76,14 @@ module _ (p l : List ℕ) where
           go (inl z) = omega arith
           go (inr t) = omega (arith, t.2, ascending_at l f.ascending t.0 i t.1 n.0, n.1)
 
-      pub unknown : length p ≤ e → Fit p l → ⊥
-      unknown h f = omega (arith, (all_at (λ v. (v < length p) × (nth p v ≡ 1)) l f.ones i n.0).0, n.1)
+      pub other : from ≤ e → ((e < length q) × (nth q e ≡ 1) → ⊥) → Fit p l → ⊥
+      other h d f =
+          let a = all_at (λ v. (v < length p) × (nth p v ≡ 1)) l f.ones i n.0 in
+          d (omega (arith, a.0, n.1, m.size), m.above e h ∙ ap (nth p) n.1 ∙ a.1)
 
-      pub other : from ≤ e → nth q e ≢ 1 → Fit p l → ⊥
-      other h d f = d (m.above e h ∙ ap (nth p) n.1 ∙ (all_at (λ v. (v < length p) × (nth p v ≡ 1)) l f.ones i n.0).1)
-
-      module _ (next : from ≤ e) (known : e < length p) (one : nth q e ≡ 1) where
+      module _ (next : from ≤ e) (there : (e < length q) × (nth q e ≡ 1)) where
         at_e : nth (set q e 2) e ≡ 2
-        at_e = get_or-set_same q e 2 0 (omega (arith, m.size))
+        at_e = get_or-set_same q e 2 0 there.0
 
         off_e : (v : ℕ) → v ≢ e → nth (set q e 2) v ≡ nth q v
         off_e v d = get_or-set_other q e v 2 0 d
@@ -91,7 +93,7 @@ module _ (p l : List ℕ) where
             record {
               size = length-set q e 2 ∙ m.size;
               upto = omega (arith, n.0);
-              ones = below_more (λ j. (nth l j < length p) × (nth p (nth l j) ≡ 1)) i m.ones (omega (arith, n.1), ap (nth p) (sym n.1) ∙ sym (m.above e next) ∙ one);
+              ones = below_more (λ j. (nth l j < length p) × (nth p (nth l j) ≡ 1)) i m.ones (omega (arith, n.1, m.size, there.0), ap (nth p) (sym n.1) ∙ sym (m.above e next) ∙ there.1);
               marks =
                   below_more (λ j. nth (set q e 2) (nth l j) ≡ 2) i
                   (λ j h. off_e (nth l j) (λ r. omega (arith, m.under j h)) ∙ m.marks j h)

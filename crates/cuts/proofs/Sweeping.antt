@@ -1,11 +1,10 @@
--- Rooms taken out at one corner, and corner by corner: the laws of `take_room` and of the loop of `touched_room`. Assumes nothing.
---   event_in, face_in    the corner's event and face have their entries
---   takes, passes        the corner's event is marked, or not
---   start, step, done    before the first corner, one corner more, and after the last one
-use mathlib.Core.Path.{◌≡◌, refl, sym, ap, subst, ◌∙◌}
+-- Rooms taken out corner by corner: the laws of the loop of `touched_room`. Assumes nothing.
+--   start, step     before the first corner, and one corner more
+--   corner_in       the key of a corner's face is a key
+use mathlib.Core.Path.{◌≡◌, sym, ap, subst, ◌∙◌}
 use mathlib.Core.Logic.{◌≢◌, ◌⊎◌, inl, inr}
 use mathlib.Core.List.{List}
-use Prim.Native.Nat.{ℕ, ◌+◌, ◌<◌, ◌≤◌}
+use Prim.Native.Nat.{ℕ, ◌+◌, ◌<◌}
 use native.Mathlib.Decide.{ℕ_discrete}
 use native.Mathlib.Omega.{arith}
 use lib.ListN.{length, set, length-set}
@@ -13,7 +12,6 @@ use lib.Seq.{get_or-set_same, get_or-set_other}
 use Rattle.finite.specs.Sums.{sum}
 use Rattle.finite.proofs.Sum.{sum_change}
 use Rattle.drawing.specs.Drawing.{Drawing, darts, event, faces}
-use Rattle.rules.specs.Chart.{drawing}
 use Rattle.words.specs.Tables.{nth}
 use Rattle.cuts.specs.Tables.{Sized}
 use Rattle.cuts.specs.Sweep.{Taken, Hit, Swept}
@@ -74,29 +72,6 @@ module _ (g : Drawing) (here q : List ℕ) where
               whole = omega (arith, w.whole, h.1, ap (λ (z : List ℕ). sum (faces g) (nth z)) h.2);
             }
 
-    pub done : (c n x : ℕ) (s : List ℕ) → n ≤ c → c ≤ n → Swept g here q s₀ c x s → Swept g here q s₀ n x s
-    done c n x s h k w = let e : c ≡ n = omega arith in subst (λ (m : ℕ). Swept g here q s₀ m x s) e w
-
-module _ (s : List ℕ) (n : ℕ) (here q spare : List ℕ) (z : Sized s n here q spare) (c : ℕ) (l : c < n) where
-  inside : c < darts (drawing s)
-  inside = omega (arith, z.corners.shape.darts)
-
-  pub corner_in : nth here c < faces (drawing s)
+module _ {g : Drawing} {here q spare : List ℕ} (z : Sized g here q spare) (c : ℕ) (inside : c < darts g) where
+  pub corner_in : nth here c < faces g
   corner_in = z.corners.keyed.inside c inside
-
-  pub event_in : (e : ℕ) → e ≡ event (drawing s) c → e < length q
-  event_in e r = omega (arith, z.events, z.corners.known c inside)
-
-  pub face_in : (f : ℕ) → f ≡ nth here c → f < length spare
-  face_in f r = omega (arith, z.keys, r, corner_in)
-
-  pub takes : (e f r : ℕ) (s' : List ℕ) → e ≡ event (drawing s) c → nth q e ≡ 2 → f ≡ nth here c → r ≡ nth spare f → r < 65536 → s' ≡ set spare f 0
-      → Taken (drawing s) here q spare c r s'
-  takes e f r s' at two in-face is few left =
-      record {
-        small = few;
-        either = inl (ap (nth q) (sym at) ∙ two, is ∙ ap (nth spare) in-face, left ∙ ap (λ (k : ℕ). set spare k 0) in-face);
-      }
-
-  pub passes : (e : ℕ) → e ≡ event (drawing s) c → nth q e ≢ 2 → Taken (drawing s) here q spare c 0 spare
-  passes e at d = record { small = omega arith; either = inr ((λ r. d (ap (nth q) at ∙ r)), refl, refl) }

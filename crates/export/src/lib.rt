@@ -3,58 +3,37 @@
 
 ghost use Rattle.std.specs.Prelude.{◌≡◌, ◌<◌};
 ghost use Rattle.rules.specs.Report.{form};
-ghost use Rattle.judge.specs.Verdicts.{refusal_of, fault_of, verdict_of};
+ghost use Rattle.judge.specs.Verdicts.{verdict_of};
 ghost use Rattle.export.specs.Packed.{Tested, pack_form, pack_body, pack_verdict, Weighed};
 
 // Tests a chart: number * 65536 + bytes written.
+#[tactic(auto, using(desk::proofs::Fits::outcome_small, desk::proofs::Fits::outcome_fits))]
 pub fn rinsholupe_test(chart: &[u8], report: &mut [u8]) -> u32
     ensures { Tested chart.now report.old result report.new }
 {
     let answer = desk::test_chart(chart, report);
-    let number = answer.number;
-    let written = answer.written;
-    (number * 65536 + written) as u32
+    (answer.number * 65536 + answer.written) as u32
 }
 
 // Reads a report's header: result * 65536 + count, or 4294967295 for bad form.
 pub fn rinsholupe_form(report: &[u8]) -> u32
     ensures { result ≡ pack_form (form report.now) }
 {
-    let header = report::form_of(report);
-    let report::Header::Good(result, count) = header else {
+    let Some(header) = report::form_of(report) else {
         return 4294967295;
     };
-    (result * 65536 + count) as u32
+    (header.result * 65536 + header.count) as u32
 }
 
 // Where a report's body lies: start * 4294967296 + length.
 pub fn rinsholupe_body(report: &[u8]) -> u64
     ensures { result ≡ pack_body report.now }
 {
-    let header = report::form_of(report);
-    let report::Header::Good(result, count) = header else {
+    let Some(_) = report::form_of(report) else {
         return 0;
     };
     let body = report::body_of(report);
     (8 * 4294967296 + body.len()) as u64
-}
-
-fn refusal_number(r: judge::Refusal) -> usize
-    ensures { result ≡ refusal_of r }
-{
-    match r {
-        judge::Refusal::File(n) => n,
-        judge::Refusal::Drawn(n) => n,
-    }
-}
-
-fn fault_number(f: judge::Fault) -> usize
-    ensures { result ≡ fault_of f }
-{
-    match f {
-        judge::Fault::Form(n) => n,
-        judge::Fault::Evidence(n) => n,
-    }
 }
 
 // A verdict as a number.
@@ -65,8 +44,8 @@ fn verdict_number(v: judge::Verdict) -> u32
     match v {
         judge::Verdict::LabelsHold => 0,
         judge::Verdict::CutHolds => 1,
-        judge::Verdict::Chart(r) => (65536 + refusal_number(r)) as u32,
-        judge::Verdict::Report(f) => fault_number(f) as u32,
+        judge::Verdict::Chart(r) => (65536 + usize::from(r)) as u32,
+        judge::Verdict::Report(f) => usize::from(f) as u32,
     }
 }
 

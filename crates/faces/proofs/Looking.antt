@@ -1,6 +1,7 @@
 -- The laws of the walk from dart to dart: a dart is the lowest of its face exactly if its face is not painted yet. Assumes nothing.
 --   Counted g d count here spare   the faces below d are painted, and count of them there are
 use mathlib.Core.Path.{◌≡◌, refl, sym, ap, ◌∙◌}
+use mathlib.Core.Bool.{Bool, true, false}
 use mathlib.Core.List.{List}
 use Prim.Native.Nat.{ℕ, ◌+◌, ◌%◌, ◌<◌, ◌≤◌}
 use native.Mathlib.Decide.{ℕ_discrete, dec_lt}
@@ -8,7 +9,9 @@ use native.Mathlib.Numerals.{add-one}
 use native.Mathlib.Omega.{arith}
 use lib.ListN.{length, set, length-set, replicate, length-replicate, get_or-replicate}
 use lib.Seq.{get_or-set_same, get_or-set_other}
+use Rattle.std.specs.Int.{from_bool}
 use Rattle.finite.specs.Sums.{sum, δ}
+use Rattle.finite.specs.Says.{Says}
 use Rattle.finite.specs.Steps.{iter}
 use Rattle.finite.proofs.Sum.{δ-eq, δ_other}
 use Rattle.finite.proofs.Tally.{class_few}
@@ -27,31 +30,28 @@ use Rattle.faces.specs.Walked.{Below, Looked, Paintable, Painted}
 
 -- ---- one dart
 
-module _ {s : List ℕ} {n d x : ℕ} {here spare : List ℕ} (A : Looked s n d x here spare) where
+module _ {s : List ℕ} {n d x : ℕ} {here spare : List ℕ} (S : Shape s n) (A : Looked (drawing s) d x here spare) where
   abbrev g : Drawing
   g = drawing s
 
   abbrev even : darts g % 2 ≡ 0
   even = darts_even s
 
-  dart : d < darts g
-  dart = omega (arith, A.shape.darts, A.dart)
-
   pub far : twin d < length here
-  far = omega (arith, twin_into (darts g) even d dart, A.below.size)
+  far = omega (arith, twin_into (darts g) even d A.dart, A.below.size)
 
   face-le : face g d ≤ d
   unfolding face iter
-  face-le = lowest-le (darts g) (walk g) (walk_inj g even A.rings) (walk_into g even A.rings) d dart 0
+  face-le = lowest-le (darts g) (walk g) (walk_inj g even A.rings) (walk_into g even A.rings) d A.dart 0
 
   corner : corner_face g (twin d) ≡ face g d
-  corner = corner_twin g even A.rings d dart
+  corner = corner_twin g even A.rings d A.dart
 
   module _ (t y : ℕ) (twins : t ≡ twin d) (got : y ≡ nth here t) where
     read : y ≡ nth here (twin d)
     read = got ∙ ap (nth here) twins
 
-    pub pass : y < 65535 → Below g (d + 1) here spare × (0 ≡ δ (face g d) d)
+    pub pass : y < 65535 → Below g (d + 1) here spare × (face g d ≡ d → ⊥)
     pass q = (
       record {
         size = A.below.size;
@@ -65,35 +65,34 @@ module _ {s : List ℕ} {n d x : ℕ} {here spare : List ℕ} (A : Looked s n d 
           | no e ↦ A.below.counts c h (omega arith)
         ];
       },
-      sym (δ_other (face g d) d (omega (arith, lower))),
+      λ e. omega (arith, lower),
     )
       where
         lower : face g d < d
         lower = elim (dec_lt (face g d) d) [
           | yes l ↦ l
-          | no l ↦ absurd (omega (arith, A.below.left (twin d) (twin_into (darts g) even d dart) (omega (arith, corner)), read))
+          | no l ↦ absurd (omega (arith, A.below.left (twin d) (twin_into (darts g) even d A.dart) (omega (arith, corner)), read))
         ]
 
     module _ (fresh : 65535 ≤ y) where
       name : face g d ≡ d
       name = elim (dec_lt (face g d) d) [
-        | yes l ↦ absurd (omega (arith, corner, A.below.done (twin d) (twin_into (darts g) even d dart) (omega (arith, corner)), number_few g (corner_face g (twin d)), face-le, A.dart, A.shape.few, read))
+        | yes l ↦ absurd (omega (arith, corner, A.below.done (twin d) (twin_into (darts g) even d A.dart) (omega (arith, corner)), number_few g (corner_face g (twin d)), face-le, A.dart, S.darts, S.few, read))
         | no l ↦ omega (arith, face-le)
       ]
 
-      pub paintable : Paintable s n d x here
+      pub paintable : Paintable (drawing s) d x here
       paintable = record {
-        shape = A.shape;
         rings = A.rings;
-        size = A.below.size ∙ sym A.shape.darts;
+        size = A.below.size;
         dart = A.dart;
         name = name;
-        small = omega (arith, A.key, number_few g d, A.dart, A.shape.few);
+        small = omega (arith, A.key, number_few g d, A.dart, S.darts, S.few);
       }
 
       pub few : switches g d < 65536
       unfolding switches
-      few = omega (arith, class_few (corner_face g) (switch g) d (λ i. omega arith) (darts g), A.shape.darts, A.shape.few)
+      few = omega (arith, class_few (corner_face g) (switch g) d (λ i. omega arith) (darts g), S.darts, S.few)
 
       -- the key of a face below d is another
       other_key : (new : List ℕ) → Painted g d x here new → (c : ℕ) → c < darts g → corner_face g c < d → (nth new c ≡ nth here c) × (nth new c < x)
@@ -101,7 +100,7 @@ module _ {s : List ℕ} {n d x : ℕ} {here spare : List ℕ} (A : Looked s n d 
           let e : nth new c ≡ nth here c = P.others c h (omega arith) in
           (e, omega (arith, A.below.done c h l, A.key, number_less g (corner_face g c) d (corner_face_lem g even A.rings c h) l))
 
-      pub add : (new : List ℕ) → Painted g d x here new → (y : ℕ) (spare' : List ℕ) → y ≡ switches g d → spare' ≡ set spare x y → Below g (d + 1) new spare' × (1 ≡ δ (face g d) d)
+      pub add : (new : List ℕ) → Painted g d x here new → (y : ℕ) (spare' : List ℕ) → y ≡ switches g d → spare' ≡ set spare x y → Below g (d + 1) new spare' × (face g d ≡ d)
       add new P y spare' count noted = (
         record {
           size = P.size ∙ A.below.size;
@@ -119,10 +118,15 @@ module _ {s : List ℕ} {n d x : ℕ} {here spare : List ℕ} (A : Looked s n d 
                 ∙ A.below.counts c h (omega arith) (omega (arith, k.0, ap length noted, length-set spare x y))
           ]);
         },
-        sym (δ-eq (face g d) d name),
+        name,
       )
 
 -- ---- all darts
+
+-- a dart that is the lowest of its face adds a face
+adds : (a b : ℕ) (r : Bool) (y : ℕ) → Says r (a ≡ b) → y ≡ from_bool r → y ≡ δ a b
+adds a b true y e q = q ∙ sym (δ-eq a b e)
+adds a b false y d q = q ∙ sym (δ_other a b d)
 
 pub record Counted (g : Drawing) (d count : ℕ) (here spare : List ℕ) : Type 0 where
   pub within : d ≤ darts g
@@ -146,9 +150,9 @@ module _ (g : Drawing) (d count : ℕ) (here spare : List ℕ) (C : Counted g d 
   pub count_few : count ≤ d
   count_few = omega (arith, C.number, number_few g d)
 
-  pub one_more : d < darts g → (r : ℕ) (new spare' : List ℕ) → Below g (d + 1) new spare' × (r ≡ δ (face g d) d) → Counted g (d + 1) (count + r) new spare'
+  pub one_more : d < darts g → (painted : Bool) (r : ℕ) (new spare' : List ℕ) → Below g (d + 1) new spare' × Says painted (face g d ≡ d) → r ≡ from_bool painted → Counted g (d + 1) (count + r) new spare'
   unfolding sum
-  one_more l r new spare' B = record { within = omega arith; number = rw (add-one d) (omega (arith, C.number, B.1)); below = B.0 }
+  one_more l painted r new spare' B q = record { within = omega arith; number = rw (add-one d) (omega (arith, C.number, adds (face g d) d painted r B.1 q)); below = B.0 }
 
 pub all : (s : List ℕ) (n d count : ℕ) (here spare : List ℕ) → Shape s n → Rings (drawing s) → Counted (drawing s) d count here spare → n ≤ d
     → Keyed (drawing s) here × (count ≡ faces (drawing s)) × Switched (drawing s) here spare

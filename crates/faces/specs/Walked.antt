@@ -1,13 +1,11 @@
 -- What the face walk has written so far, in a table with an entry for each corner. Assumes nothing.
 --   Below g d here spare    the corners of the faces below d have the number of their face, the other corners none; spare has their switch corners
---   Looked s n d x here spare   the same of the chart s of n darts, whose rings hold; x faces are below d
---   Paintable s n d x here  d is the lowest dart of its face in the chart s of n darts, and here has an entry for each corner
+--   Looked g d x here spare the same, where the rings hold and d is a dart; x faces are below d
+--   Paintable g d x here    d is the lowest dart of its face, the rings hold, and here has an entry for each corner
 --   Painted g d x old new   new is old with x at the corners of the face d
 use Rattle.std.specs.Prelude.{◌≡◌, ◌≢◌, List, ℕ, ◌≤◌, ◌<◌, length}
 use Rattle.drawing.specs.Drawing.{Drawing, darts, face, corner_face, switches}
 use Rattle.drawing.specs.Conditions.{Rings}
-use Rattle.rules.specs.Chart.{drawing}
-use Rattle.chart.specs.Shape.{Shape}
 use Rattle.words.specs.Tables.{nth}
 use Rattle.chart.specs.Held.{number}
 
@@ -17,19 +15,17 @@ pub record Below (g : Drawing) (d : ℕ) (here spare : List ℕ) : Type 0 where
   pub left : (c : ℕ) → c < darts g → d ≤ corner_face g c → nth here c ≡ 65535
   pub counts : (c : ℕ) → c < darts g → corner_face g c < d → nth here c < length spare → nth spare (nth here c) ≡ switches g (corner_face g c)
 
-pub record Looked (s : List ℕ) (n d x : ℕ) (here spare : List ℕ) : Type 0 where
-  pub shape : Shape s n
-  pub rings : Rings (drawing s)
-  pub dart : d < n
-  pub below : Below (drawing s) d here spare
-  pub key : x ≡ number (drawing s) d
+pub record Looked (g : Drawing) (d x : ℕ) (here spare : List ℕ) : Type 0 where
+  pub rings : Rings g
+  pub dart : d < darts g
+  pub below : Below g d here spare
+  pub key : x ≡ number g d
 
-pub record Paintable (s : List ℕ) (n d x : ℕ) (here : List ℕ) : Type 0 where
-  pub shape : Shape s n
-  pub rings : Rings (drawing s)
-  pub size : length here ≡ n
-  pub dart : d < n
-  pub name : face (drawing s) d ≡ d
+pub record Paintable (g : Drawing) (d x : ℕ) (here : List ℕ) : Type 0 where
+  pub rings : Rings g
+  pub size : length here ≡ darts g
+  pub dart : d < darts g
+  pub name : face g d ≡ d
   pub small : x < 65536
 
 pub record Painted (g : Drawing) (d x : ℕ) (old new : List ℕ) : Type 0 where

@@ -1,6 +1,6 @@
 -- Runs of the tests one after the other. Assumes nothing.
 use mathlib.Core.Path.{◌≡◌, refl, sym, ap}
-use mathlib.Core.Logic.{◌≢◌}
+use mathlib.Core.Logic.{◌≢◌, ◌⊎◌, inl, inr}
 use mathlib.Core.List.{List, [], ◌++◌}
 use Prim.Native.Nat.{ℕ, ◌≤◌, ◌<◌}
 use native.Mathlib.Omega.{arith}
@@ -13,6 +13,9 @@ use Rattle.rules.specs.Report.{Entries, report, Run}
 use Rattle.rules.proofs.Chain.{given_append, given_left, given_highest}
 use Rattle.report.proofs.Laws.{writes-none}
 use Rattle.survey.specs.Past.{later_tests}
+use Rattle.survey.specs.Faults.{fault_number}
+use Rattle.survey.specs.declared.Fault.{Fault}
+use Rattle.survey.specs.declared.Fault.TheVariants.{Order, Parted, Crossing, Mixed, Circle}
 
 -- tests 11 to 13 give no number above 13
 pub later_small : (s : List ℕ) (r : ℕ) → Given later_tests s 0 r → r ≤ 13
@@ -46,3 +49,16 @@ run_after ts us s b n w b' g R = run_as (ts ++ us) s b n w b' (given_append ts u
 -- a fault of the earlier tests
 pub run_before : (ts us : List Test) (s b : List ℕ) (n w : ℕ) (b' : List ℕ) → n ≢ 0 → Run ts s b n w b' → Run (ts ++ us) s b n w b'
 run_before ts us s b n w b' z R = run_as (ts ++ us) s b n w b' (given_left ts us s (length b) n z R.given) R
+
+-- ---- the faults of tests 11 to 13: those with evidence, and those that write nothing
+
+pub listed_fault : (f : Fault) → (f ≡ Mixed) ⊎ ((k : ℕ) × (f ≡ Circle k)) → 12 ≤ fault_number f
+listed_fault f (inl e) = omega (arith, ap fault_number e)
+listed_fault f (inr (k, e)) = omega (arith, ap fault_number e)
+
+pub silent_fault : (f : Fault) → (f ≡ Mixed → ⊥) → ((k : ℕ) → f ≡ Circle k → ⊥) → (fault_number f ≢ 0) × (fault_number f < 12)
+silent_fault Order a b = (λ e. omega arith, omega arith)
+silent_fault Parted a b = (λ e. omega arith, omega arith)
+silent_fault Crossing a b = (λ e. omega arith, omega arith)
+silent_fault Mixed a b = absurd (a refl)
+silent_fault (Circle k) a b = absurd (b k refl)

@@ -2,12 +2,12 @@
 use mathlib.Core.Path.{◌≡◌, refl, ap, ◌∙◌}
 use mathlib.Core.Logic.{inl, inr}
 use mathlib.Core.List.{List, ◌++◌}
-use Prim.Native.Nat.{ℕ, ◌+◌, ◌-◌, ◌%◌, ◌≤◌}
+use Prim.Native.Nat.{ℕ, ◌+◌, ◌-◌, ◌≤◌}
 use lib.ListN.{length, take, drop, take-append-drop}
-use Rattle.drawing.specs.Drawing.{darts}
 use Rattle.drawing.specs.Conditions.{Rings, Labelling, Cut}
 use Rattle.drawing.proofs.Apart.{labelling_no_cut}
 use Rattle.rules.specs.Chart.{drawing}
+use Rattle.rules.proofs.Bytes.{darts_even}
 use Rattle.rules.specs.Report.{report, Run}
 use Rattle.report.specs.Headers.{header}
 use Rattle.report.proofs.Laws.{labels-report, labels_length}
@@ -17,10 +17,10 @@ use Rattle.findings.specs.Stretch.{last_tests}
 pub left_whole : (b ys : List ℕ) (k : ℕ) → ys ≡ take k (drop 8 b) → take 8 b ++ (ys ++ drop k (drop 8 b)) ≡ b
 left_whole b ys k e = rw (e, take-append-drop k (drop 8 b)) (take-append-drop 8 b)
 
-pub cut_run : (s b : List ℕ) (l : List ℕ) (w : ℕ) (b' whole : List ℕ) → darts (drawing s) % 2 ≡ 0 → Rings (drawing s) → whole ≡ b → Cut (drawing s) l
+pub cut_run : (s b : List ℕ) (l : List ℕ) (w : ℕ) (b' whole : List ℕ) → Rings (drawing s) → whole ≡ b → Cut (drawing s) l
     → (b' ≡ report 14 l ++ drop w whole) × (w ≡ length (report 14 l)) → Run last_tests s b 14 w b'
-cut_run s b l w b' whole even R e C h = record {
-  given = inl ((λ D. labelling_no_cut (drawing s) even R D.0 l D.1 C), refl);
+cut_run s b l w b' whole R e C h = record {
+  given = inl ((λ D. labelling_no_cut (drawing s) (darts_even s) R D.0 l D.1 C), refl);
   entries = l;
   allowed = C;
   written = h.1;

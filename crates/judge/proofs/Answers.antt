@@ -8,6 +8,7 @@ use mathlib.Core.Bool.{Bool, true, false, cond}
 use mathlib.Core.List.{List}
 use Prim.Native.Nat.{ℕ}
 use native.Mathlib.Decide.{ℕ_discrete}
+use native.Mathlib.Omega.{arith}
 use borrow.Author.Tests.{le-leb, lt-leb, ne_eqb}
 use lib.Dec.{eqb, leb}
 use Rattle.rules.specs.Chart.{drawing}
@@ -17,7 +18,13 @@ use Rattle.rules.specs.Judge.{Judged}
 use Rattle.rules.proofs.Chain.{given_left, given_append, given_highest, given_lowest}
 use Rattle.rules.proofs.Unique.{judged_unique}
 use Rattle.chart.specs.Form.{form_tests}
+use Rattle.chart.specs.Faults.{fault_number}
+use Rattle.chart.specs.declared.Fault as chart
+use Rattle.chart.specs.declared.Fault.TheVariants.{Mark, Version, Counts, Length, UnknownEvent, OwnArrow, OuterDart}
 use Rattle.survey.specs.Past.{survey_tests}
+use Rattle.survey.specs.Faults.{fault_number as drawn_number}
+use Rattle.survey.specs.declared.Fault as survey
+use Rattle.survey.specs.declared.Fault.TheVariants.{Order, Parted, Crossing, Mixed, Circle}
 use Rattle.judge.specs.Verdicts.{verdict_of, case_of, Answered, Reported}
 use Rattle.judge.specs.declared.Refusal.TheVariants.{File, Drawn}
 use Rattle.judge.specs.declared.Fault.TheVariants.{Form, Evidence}
@@ -44,6 +51,23 @@ said_case (rules.J j) =
     go false = refl
 
 -- ---- the ways to an answer
+
+-- a fault has a number
+pub file_some : (f : chart.Fault) → fault_number f ≢ 0
+file_some Mark = λ e. omega arith
+file_some Version = λ e. omega arith
+file_some Counts = λ e. omega arith
+file_some Length = λ e. omega arith
+file_some UnknownEvent = λ e. omega arith
+file_some OwnArrow = λ e. omega arith
+file_some OuterDart = λ e. omega arith
+
+pub drawn_some : (f : survey.Fault) → drawn_number f ≢ 0
+drawn_some Order = λ e. omega arith
+drawn_some Parted = λ e. omega arith
+drawn_some Crossing = λ e. omega arith
+drawn_some Mixed = λ e. omega arith
+drawn_some (Circle k) = λ e. omega arith
 
 module _ (s r : List ℕ) (n : ℕ) (some : n ≢ 0) where
   refused : Given faults s 0 n → Judged s r (rules.chart n)

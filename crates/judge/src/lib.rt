@@ -1,34 +1,38 @@
 // The judge: the chart's fault 2 to 13, or what a report deserves. It writes nothing, and knows nothing of the search for places.
 #![tactic(auto)]
 
-ghost use Rattle.std.specs.Prelude.{◌≡◌, ◌*◌, ◌≤◌, length, replicate};
+ghost use Rattle.std.specs.Prelude.{◌≡◌, ◌*◌, ◌/◌, ◌≤◌, length, replicate, Some};
 ghost use Rattle.finite.specs.Says.{Says};
 ghost use Rattle.drawing.specs.Drawing.{faces};
 ghost use Rattle.drawing.specs.Conditions.{Labelling, Cut};
 ghost use Rattle.rules.specs.Words.{words as words_at};
-ghost use Rattle.rules.specs.Chart.{drawing};
 ghost use Rattle.rules.specs.Tests.{Given};
+ghost use Rattle.chart.specs.Charts.{drawn};
 ghost use Rattle.chart.specs.Form.{form_tests};
 ghost use Rattle.chart.specs.Held.{Keyed, Switched};
 ghost use Rattle.survey.specs.Past.{Formed, Unused, Clear};
-ghost use Rattle.judge.specs.Verdicts.{Answered, Reported};
+ghost use Rattle.judge.specs.Verdicts.{refusal_of, fault_of, verdict_of, said, Answered, Reported};
 
+use chart::Chart;
+use std::fmt;
+
+// Each case holds its number, as docs/DECISIONS.md 36 wants it.
 // The chart's refusal, with its number: a fault of the file, 2 to 8, or of the drawing in it, 9 to 13.
-#[derive(Clone, Copy)]
+#[derive(Clone, Copy, Debug, PartialEq, Eq)]
 pub enum Refusal {
     File(usize),
     Drawn(usize),
 }
 
 // The report's own fault, with its number: J2 of its form, or J3 or J4 of its evidence.
-#[derive(Clone, Copy)]
+#[derive(Clone, Copy, Debug, PartialEq, Eq)]
 pub enum Fault {
     Form(usize),
     Evidence(usize),
 }
 
 // The labels hold (J0), the cut holds (J1), or what is wrong.
-#[derive(Clone, Copy)]
+#[derive(Clone, Copy, Debug, PartialEq, Eq)]
 pub enum Verdict {
     LabelsHold,
     CutHolds,
@@ -36,10 +40,46 @@ pub enum Verdict {
     Report(Fault),
 }
 
+// The number of a refusal.
+impl From<Refusal> for usize {
+    ghost from_gives = { λ refusal n. n ≡ refusal_of refusal };
+
+    fn from(refusal: Refusal) -> usize {
+        match refusal {
+            Refusal::File(n) | Refusal::Drawn(n) => n,
+        }
+    }
+}
+
+// The number of a fault.
+impl From<Fault> for usize {
+    ghost from_gives = { λ fault j. j ≡ fault_of fault };
+
+    fn from(fault: Fault) -> usize {
+        match fault {
+            Fault::Form(j) | Fault::Evidence(j) => j,
+        }
+    }
+}
+
+// J0 to J4, or the number of the chart's refusal alone.
+impl fmt::Display for Verdict {
+    ghost output = { λ verdict. Some (said (verdict_of verdict)) };
+
+    #[tactic(auto, using(std::proofs::lemmas::Fmt::decimal_digit))]
+    fn fmt<W: fmt::Write>(&self, f: &mut fmt::Formatter<W>) -> fmt::Result {
+        match *self {
+            Verdict::LabelsHold => f.write_str("J0"),
+            Verdict::CutHolds => f.write_str("J1"),
+            Verdict::Chart(refusal) => write!(f, "{}", usize::from(refusal)),
+            Verdict::Report(fault) => write!(f, "J{}", usize::from(fault)),
+        }
+    }
+}
+
+// The same on tables lent.
 fn weigh_labels(
-    chart: &[u8],
-    n: usize,
-    v: usize,
+    chart: &Chart<'_>,
     here: &[u16],
     poles: &mut [u16],
     spare: &mut [u16],
@@ -47,134 +87,97 @@ fn weigh_labels(
     load: &mut [u16],
     body: &[u8],
 ) -> bool
-    requires clear { Clear chart.now n v × (Keyed (drawing chart.now) here.now × (length body.now ≡ n)) }
-    requires poles_len { ((length poles.old ≡ v) × ((length spare.old ≡ faces (drawing chart.now)) × Switched (drawing chart.now) here.now spare.old)) × ((length tally.old ≡ v) × (length load.old ≡ faces (drawing chart.now))) }
-    ensures { Says result (Labelling (drawing chart.now) body.now) }
+    requires clear { Clear (drawn chart.now) × (Keyed (drawn chart.now) here.now × (length body.now ≡ chart.now.darts)) }
+    requires poles_len { ((length poles.old ≡ (drawn chart.now).events) × ((length spare.old ≡ faces (drawn chart.now)) × Switched (drawn chart.now) here.now spare.old)) × ((length tally.old ≡ (drawn chart.now).events) × (length load.old ≡ faces (drawn chart.now))) }
+    ensures { Says result (Labelling (drawn chart.now) body.now) }
 {
-    let outer = chart::outer_dart(chart);
-    rooms::room_table(chart, n, here, outer, spare);
-    rooms::pole_table(chart, n, poles);
-    labels::labels_hold(chart, n, here, poles, spare, body, tally, load)
+    rooms::room_table(chart, here, spare);
+    rooms::pole_table(chart, poles);
+    labels::labels_hold(chart, here, poles, spare, body, tally, load)
 }
 
 // Whether the labels in the body of a report are a labelling.
-fn labels_right(
-    chart: &[u8],
-    n: usize,
-    v: usize,
-    here: &[u16],
-    spare: &mut [u16],
-    body: &[u8],
-) -> bool
-    requires clear { Clear chart.now n v × (Keyed (drawing chart.now) here.now × (length body.now ≡ n)) }
-    requires n_bound { (n ≤ 2 * length spare.old) × Switched (drawing chart.now) here.now spare.old }
-    ensures { Says result (Labelling (drawing chart.now) body.now) }
+fn labels_right(chart: &Chart<'_>, here: &[u16], spare: &mut [u16], body: &[u8]) -> bool
+    requires clear { Clear (drawn chart.now) × (Keyed (drawn chart.now) here.now × (length body.now ≡ chart.now.darts)) }
+    requires spare_long { (chart.now.darts ≤ 2 * length spare.old) × Switched (drawn chart.now) here.now spare.old }
+    ensures { Says result (Labelling (drawn chart.now) body.now) }
 {
     let mut poles = [0u16; 1024];
     let mut tally = [0u16; 1024];
     let mut load = [0u16; 3072];
-    let f = survey::face_count(chart, n, v);
+    let v = chart.event_count();
+    let f = survey::face_count(chart);
     weigh_labels(
         chart,
-        n,
-        v,
         here,
-        &mut poles[0..v],
-        &mut spare[0..f],
-        &mut tally[0..v],
-        &mut load[0..f],
+        &mut poles[..v],
+        &mut spare[..f],
+        &mut tally[..v],
+        &mut load[..f],
         body,
     )
 }
 
+// The same on tables lent.
 fn weigh_cut(
-    chart: &[u8],
-    n: usize,
-    v: usize,
+    chart: &Chart<'_>,
     here: &[u16],
     poles: &mut [u16],
     spare: &mut [u16],
     body: &[u8],
-    count: usize,
 ) -> bool
-    requires clear { Clear chart.now n v × (Keyed (drawing chart.now) here.now × (2 * count ≡ length body.now)) }
-    requires poles_len { (length poles.old ≡ v) × ((length spare.old ≡ faces (drawing chart.now)) × Switched (drawing chart.now) here.now spare.old) }
-    ensures { Says result (Cut (drawing chart.now) (words_at body.now 0 count)) }
+    requires clear { Clear (drawn chart.now) × Keyed (drawn chart.now) here.now }
+    requires poles_len { (length poles.old ≡ (drawn chart.now).events) × ((length spare.old ≡ faces (drawn chart.now)) × Switched (drawn chart.now) here.now spare.old) }
+    ensures { Says result (Cut (drawn chart.now) (words_at body.now 0 (length body.now / 2))) }
 {
-    let outer = chart::outer_dart(chart);
-    rooms::room_table(chart, n, here, outer, spare);
-    rooms::pole_table(chart, n, poles);
-    cuts::cut_holds(chart, n, here, poles, spare, body, count)
+    rooms::room_table(chart, here, spare);
+    rooms::pole_table(chart, poles);
+    cuts::cut_holds(chart, here, poles, spare, body)
 }
 
 // Whether the list in the body of a report is a cut.
-fn cut_right(
-    chart: &[u8],
-    n: usize,
-    v: usize,
-    here: &[u16],
-    spare: &mut [u16],
-    body: &[u8],
-    count: usize,
-) -> bool
-    requires clear { Clear chart.now n v × (Keyed (drawing chart.now) here.now × (2 * count ≡ length body.now)) }
-    requires n_bound { (n ≤ 2 * length spare.old) × Switched (drawing chart.now) here.now spare.old }
-    ensures { Says result (Cut (drawing chart.now) (words_at body.now 0 count)) }
+fn cut_right(chart: &Chart<'_>, here: &[u16], spare: &mut [u16], body: &[u8]) -> bool
+    requires clear { Clear (drawn chart.now) × Keyed (drawn chart.now) here.now }
+    requires spare_long { (chart.now.darts ≤ 2 * length spare.old) × Switched (drawn chart.now) here.now spare.old }
+    ensures { Says result (Cut (drawn chart.now) (words_at body.now 0 (length body.now / 2))) }
 {
     let mut poles = [0u16; 1024];
-    let f = survey::face_count(chart, n, v);
-    weigh_cut(
-        chart,
-        n,
-        v,
-        here,
-        &mut poles[0..v],
-        &mut spare[0..f],
-        body,
-        count,
-    )
+    let v = chart.event_count();
+    let f = survey::face_count(chart);
+    weigh_cut(chart, here, &mut poles[..v], &mut spare[..f], body)
 }
 
 // What the report of a chart past test 13 deserves.
-fn weigh(
-    chart: &[u8],
-    n: usize,
-    v: usize,
-    here: &[u16],
-    spare: &mut [u16],
-    report: &[u8],
-) -> Verdict
-    requires { Clear chart.now n v × Keyed (drawing chart.now) here.now × (n ≤ 2 * length spare.old) × Switched (drawing chart.now) here.now spare.old }
-    ensures { Reported (drawing chart.now) report.now result }
+fn weigh(chart: &Chart<'_>, here: &[u16], spare: &mut [u16], report: &[u8]) -> Verdict
+    requires { Clear (drawn chart.now) × Keyed (drawn chart.now) here.now × (chart.now.darts ≤ 2 * length spare.old) × Switched (drawn chart.now) here.now spare.old }
+    ensures { Reported (drawn chart.now) report.now result }
 {
-    let header = report::form_of(report);
-    let report::Header::Good(result, count) = header else {
+    let Some(header) = report::form_of(report) else {
         return Verdict::Report(Fault::Form(2));
     };
     let body = report::body_of(report);
-    if result == 0 {
-        if count != n {
-            return Verdict::Report(Fault::Form(2));
+    match header.result {
+        0 if header.count == chart.darts => {
+            if labels_right(chart, here, spare, body) {
+                Verdict::LabelsHold
+            } else {
+                Verdict::Report(Fault::Evidence(3))
+            }
         }
-        if labels_right(chart, n, v, here, spare, body) {
-            return Verdict::LabelsHold;
+        14 => {
+            if cut_right(chart, here, spare, body) {
+                Verdict::CutHolds
+            } else {
+                Verdict::Report(Fault::Evidence(4))
+            }
         }
-        return Verdict::Report(Fault::Evidence(3));
+        _ => Verdict::Report(Fault::Form(2)),
     }
-    if result == 14 {
-        if cut_right(chart, n, v, here, spare, body, count) {
-            return Verdict::CutHolds;
-        }
-        return Verdict::Report(Fault::Evidence(4));
-    }
-    Verdict::Report(Fault::Form(2))
 }
 
 // The same for a chart past test 8, on the tables lent: here, first and left come as the survey wants them, the rest is scratch.
 fn judge_drawn(
-    chart: &[u8],
-    n: usize,
-    v: usize,
+    chart: &Chart<'_>,
     here: &mut [u16],
     spare: &mut [u16],
     first: &mut [u16],
@@ -182,37 +185,34 @@ fn judge_drawn(
     left: &mut [u16],
     report: &[u8],
 ) -> Verdict
-    requires formed { Formed chart.now n v × Given form_tests chart.now 0 0 }
-    requires unused { Unused n v here.old first.old list.old × ((left.old ≡ replicate v 0) × (n ≤ 2 * length spare.old)) }
-    ensures { Answered chart.now report.now result }
+    requires formed { Formed (drawn chart.now) × Given form_tests chart.now.bytes.now 0 0 }
+    requires unused { Unused (drawn chart.now) chart.now.darts here.old first.old list.old × ((left.old ≡ replicate (drawn chart.now).events 0) × (chart.now.darts ≤ 2 * length spare.old)) }
+    ensures { Answered chart.now.bytes.now report.now result }
 {
-    let found = survey::survey_all(chart, n, v, here, spare, first, list, left);
-    let fault = found.fault;
-    if 1 <= fault {
-        return Verdict::Chart(Refusal::Drawn(fault));
+    if let Err(fault) = survey::check(chart, here, spare, first, list, left) {
+        return Verdict::Chart(Refusal::Drawn(fault.number()));
     }
-    weigh(chart, n, v, here, spare, report)
+    weigh(chart, here, spare, report)
 }
 
 // The tables of any chart.
-fn judge_any(chart: &[u8], n: usize, v: usize, report: &[u8]) -> Verdict
-    requires { Formed chart.now n v × Given form_tests chart.now 0 0 }
-    ensures { Answered chart.now report.now result }
+fn judge_any(chart: &Chart<'_>, report: &[u8]) -> Verdict
+    requires { Formed (drawn chart.now) × Given form_tests chart.now.bytes.now 0 0 }
+    ensures { Answered chart.now.bytes.now report.now result }
 {
     let mut here = [65535u16; 6144];
     let mut spare = [0u16; 3072];
     let mut first = [65535u16; 1024];
     let mut list = [0u16; 1024];
     let mut left = [0u16; 1024];
+    let v = chart.event_count();
     judge_drawn(
         chart,
-        n,
-        v,
-        &mut here[0..n],
-        &mut spare[0..3072],
-        &mut first[0..v],
-        &mut list[0..v],
-        &mut left[0..v],
+        &mut here[..chart.darts],
+        &mut spare,
+        &mut first[..v],
+        &mut list[..v],
+        &mut left[..v],
         report,
     )
 }
@@ -221,11 +221,8 @@ fn judge_any(chart: &[u8], n: usize, v: usize, report: &[u8]) -> Verdict
 pub fn judge(chart: &[u8], report: &[u8]) -> Verdict
     ensures { Answered chart.now report.now result }
 {
-    let fault = chart::form_fault(chart);
-    if 1 <= fault {
-        return Verdict::Chart(Refusal::File(fault));
+    match chart::read(chart) {
+        Ok(chart) => judge_any(&chart, report),
+        Err(fault) => Verdict::Chart(Refusal::File(fault.number())),
     }
-    let n = chart::dart_count(chart);
-    let v = chart::event_count(chart);
-    judge_any(chart, n, v, report)
 }

@@ -16,15 +16,15 @@ module _ (g : Drawing) (here l e f : List ℕ) (c : ℕ) (K : Counted g here l e
   few : (k : ℕ → ℕ) (x : ℕ) → class c k (large l) x ≤ c
   few k x = class_few k (large l) x (λ i. δ-le (label l i) 2) c
 
-  -- the keys of corner c stand in the tables, and what is counted there may grow
-  pub event_key : darts g ≤ 6144 → EventsKnown g → (k : ℕ) → k ≡ event g c → (k < length e) × (nth e k < 65535)
-  event_key small known k q =
-      let h : k < length e = omega (arith, known c inside, K.size_e) in
+  -- what is counted at a key of the tables may grow
+  pub event_key : darts g ≤ 6144 → (k : ℕ) → k < g.events → (k < length e) × (nth e k < 65535)
+  event_key small k l =
+      let h : k < length e = omega (arith, K.size_e) in
       (h, omega (arith, K.by_event k h, few (event g) k))
 
-  pub face_key : darts g ≤ 6144 → nth here c < faces g → (k : ℕ) → k ≡ nth here c → (k < length f) × (nth f k < 65535)
-  face_key small face_in k q =
-      let h : k < length f = omega (arith, face_in, K.size_f) in
+  pub face_key : darts g ≤ 6144 → (k : ℕ) → k < faces g → (k < length f) × (nth f k < 65535)
+  face_key small k l =
+      let h : k < length f = omega (arith, K.size_f) in
       (h, omega (arith, K.by_face k h, few (nth here) k))
 
   pub counted_more : EventsKnown g → nth here c < faces g → (k j x : ℕ) (e' f' : List ℕ) → k ≡ event g c → j ≡ nth here c → x ≡ label l c

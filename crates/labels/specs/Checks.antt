@@ -1,7 +1,6 @@
 -- What the checks of a report's labels ask. Assumes nothing.
 --   Suits g l c            the label of corner c suits its kind
 --   Counted g here l e f c   e and f hold the large corners below c of each event and of each key of a face
---   Same a b               the tables a and b are alike
 use Rattle.std.specs.Prelude.{◌≡◌, ◌⊎◌, List, ℕ, ◌<◌, length}
 use Rattle.finite.specs.Sums.{δ, class}
 use Rattle.drawing.specs.Drawing.{Drawing, event, faces, plain, switch}
@@ -22,6 +21,3 @@ pub record Counted (g : Drawing) (here l e f : List ℕ) (c : ℕ) : Type 0 wher
   pub size_f : length f ≡ faces g
   pub by_event : (v : ℕ) → v < length e → nth e v ≡ class c (event g) (large l) v
   pub by_face : (x : ℕ) → x < length f → nth f x ≡ class c (nth here) (large l) x
-
-abbrev pub Same : List ℕ → List ℕ → Type 0
-Same a b = (i : ℕ) → i < length a → nth a i ≡ nth b i

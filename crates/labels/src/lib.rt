@@ -6,47 +6,33 @@ ghost use Rattle.finite.specs.Sums.{δ};
 ghost use Rattle.finite.specs.Says.{Says};
 ghost use Rattle.drawing.specs.Drawing.{faces};
 ghost use Rattle.drawing.specs.Conditions.{EventsKnown, OuterKnown, Rings, Labelling};
-ghost use Rattle.rules.specs.Chart.{drawing};
 ghost use Rattle.words.specs.Tables.{nth};
-ghost use Rattle.chart.specs.Shape.{Shape};
+ghost use Rattle.chart.specs.Charts.{drawn};
 ghost use Rattle.chart.specs.Held.{Keyed, Poled, Roomed};
-ghost use Rattle.labels.specs.Checks.{Suits, Counted, Same};
+ghost use Rattle.labels.specs.Checks.{Suits, Counted};
+
+use chart::Chart;
 
 // Whether the label of corner c suits its kind.
-fn suits(chart: &[u8], n: usize, body: &[u8], c: usize) -> bool
-    requires { Shape chart.now n × ((c < n) × (length body.now ≡ n)) }
-    ensures { Says result (Suits (drawing chart.now) body.now c) }
+fn suits(chart: &Chart<'_>, body: &[u8], c: usize) -> bool
+    requires { (c < chart.now.darts) × (length body.now ≡ chart.now.darts) }
+    ensures { Says result (Suits (drawn chart.now) body.now c) }
 {
-    let d = chart::next_of(chart, n, c);
-    let b = body[c];
-    if (c % 2 + d % 2) % 2 == 1 {
-        if b == 1 {
-            return true;
-        }
-        return false;
+    let d = chart.next_of(c);
+    let plain = c % 2 != d % 2;
+    match body[c] {
+        1 => plain,
+        0 | 2 => !plain,
+        _ => false,
     }
-    if b == 0 {
-        return true;
-    }
-    if b == 2 {
-        return true;
-    }
-    false
 }
 
 // Whether every label suits its corner.
-fn all_suit(chart: &[u8], n: usize, body: &[u8]) -> bool
-    requires { Shape chart.now n × (length body.now ≡ n) }
-    ensures { Says result ((c : ℕ) → c < n → Suits (drawing chart.now) body.now c) }
+fn all_suit(chart: &Chart<'_>, body: &[u8]) -> bool
+    requires { length body.now ≡ chart.now.darts }
+    ensures { Says result ((c : ℕ) → c < chart.now.darts → Suits (drawn chart.now) body.now c) }
 {
-    let mut c = 0;
-    while c < n {
-        if !suits(chart, n, body, c) {
-            return false;
-        }
-        c += 1;
-    }
-    true
+    (0..chart.darts).all(|c| suits(chart, body, c))
 }
 
 // Adds one at key if the label b is large.
@@ -61,67 +47,41 @@ fn add_large(t: &mut [u16], key: usize, b: u8)
 
 // Counts corner c, at its event and in its face.
 fn count_corner(
-    chart: &[u8],
-    n: usize,
+    chart: &Chart<'_>,
     here: &[u16],
     body: &[u8],
     tally: &mut [u16],
     load: &mut [u16],
     c: usize,
 )
-    requires shape { Shape chart.now n × (EventsKnown (drawing chart.now) × (Rings (drawing chart.now) × Keyed (drawing chart.now) here.now)) }
-    requires body_len { (length body.now ≡ n) × (c < n) }
-    requires counted { Counted (drawing chart.now) here.now body.now tally.old load.old c }
-    ensures { Counted (drawing chart.now) here.now body.now tally.new load.new (c + 1) }
+    requires known { EventsKnown (drawn chart.now) × (Rings (drawn chart.now) × Keyed (drawn chart.now) here.now) }
+    requires body_len { (length body.now ≡ chart.now.darts) × (c < chart.now.darts) }
+    requires counted { Counted (drawn chart.now) here.now body.now tally.old load.old c }
+    ensures { Counted (drawn chart.now) here.now body.now tally.new load.new (c + 1) }
 {
     let b = body[c];
-    let e = chart::event_of(chart, n, c);
+    let e = chart.event_of(c);
     add_large(tally, e, b);
     let f = words::get(here, c);
     add_large(load, f, b);
 }
 
 // Counts the large corners of each event and of each face.
-fn count_larges(
-    chart: &[u8],
-    n: usize,
-    here: &[u16],
-    body: &[u8],
-    tally: &mut [u16],
-    load: &mut [u16],
-)
-    requires shape { Shape chart.now n × (EventsKnown (drawing chart.now) × (Rings (drawing chart.now) × Keyed (drawing chart.now) here.now)) }
-    requires body_len { (length body.now ≡ n) × ((length tally.old ≡ (drawing chart.now).events) × (length load.old ≡ faces (drawing chart.now))) }
-    ensures { Counted (drawing chart.now) here.now body.now tally.new load.new n }
+fn count_larges(chart: &Chart<'_>, here: &[u16], body: &[u8], tally: &mut [u16], load: &mut [u16])
+    requires known { EventsKnown (drawn chart.now) × (Rings (drawn chart.now) × Keyed (drawn chart.now) here.now) }
+    requires body_len { (length body.now ≡ chart.now.darts) × ((length tally.old ≡ (drawn chart.now).events) × (length load.old ≡ faces (drawn chart.now))) }
+    ensures { Counted (drawn chart.now) here.now body.now tally.new load.new chart.now.darts }
 {
-    words::fill(tally, 0);
-    words::fill(load, 0);
-    let mut c = 0;
-    while c < n {
-        count_corner(chart, n, here, body, tally, load, c);
-        c += 1;
+    tally.fill(0);
+    load.fill(0);
+    for c in 0..chart.darts {
+        count_corner(chart, here, body, tally, load, c);
     }
-}
-
-// Whether two tables are alike.
-fn same(a: &[u16], b: &[u16]) -> bool
-    requires { length a.now ≡ length b.now }
-    ensures { Says result (Same a.now b.now) }
-{
-    let mut i = 0;
-    while i < a.len() {
-        if a[i] != b[i] {
-            return false;
-        }
-        i += 1;
-    }
-    true
 }
 
 // Whether the labels are a labelling of the chart.
 pub fn labels_hold(
-    chart: &[u8],
-    n: usize,
+    chart: &Chart<'_>,
     here: &[u16],
     poles: &[u16],
     spare: &[u16],
@@ -129,20 +89,14 @@ pub fn labels_hold(
     tally: &mut [u16],
     load: &mut [u16],
 ) -> bool
-    requires shape { Shape chart.now n × (EventsKnown (drawing chart.now) × (Rings (drawing chart.now) × Keyed (drawing chart.now) here.now)) }
-    requires outer_known { OuterKnown (drawing chart.now) × (Poled (drawing chart.now) poles.now × Roomed (drawing chart.now) here.now spare.now) }
-    requires body_len { (length body.now ≡ n) × ((length tally.old ≡ (drawing chart.now).events) × (length load.old ≡ faces (drawing chart.now))) }
-    ensures { Says result (Labelling (drawing chart.now) body.now) }
+    requires known { EventsKnown (drawn chart.now) × (Rings (drawn chart.now) × Keyed (drawn chart.now) here.now) }
+    requires outer_known { OuterKnown (drawn chart.now) × (Poled (drawn chart.now) poles.now × Roomed (drawn chart.now) here.now spare.now) }
+    requires body_len { (length body.now ≡ chart.now.darts) × ((length tally.old ≡ (drawn chart.now).events) × (length load.old ≡ faces (drawn chart.now))) }
+    ensures { Says result (Labelling (drawn chart.now) body.now) }
 {
-    if !all_suit(chart, n, body) {
+    if !all_suit(chart, body) {
         return false;
     }
-    count_larges(chart, n, here, body, tally, load);
-    if !same(tally, poles) {
-        return false;
-    }
-    if !same(load, spare) {
-        return false;
-    }
-    true
+    count_larges(chart, here, body, tally, load);
+    &*tally == poles && &*load == spare
 }

@@ -1,17 +1,14 @@
 -- The words of a result, where its number is known. Assumes nothing.
 use mathlib.Core.Path.{◌≡◌, sym, ap}
 use mathlib.Core.Logic.{◌≢◌}
-use mathlib.Core.List.{List}
 use Prim.Native.Nat.{ℕ, ◌≤◌, ◌<◌}
 use native.Mathlib.Omega.{arith}
 use lib.ListN.{length}
 use Rattle.finite.proofs.Decide.{is_yes_lem, all?, le?}
 use Rattle.rules.specs.Listing.{saying, ascii}
-use Rattle.lines.specs.Text.{Wrote}
-use Rattle.lines.proofs.Text.{wrote_as}
 
-pub says : {n : ℕ} (k : ℕ) {s s' : List ℕ} {at r : ℕ} → n ≡ k → Wrote s at (saying k) s' r → Wrote s at (saying n) s' r
-says k e w = wrote_as w (sym (ap saying e))
+pub words_at : {n : ℕ} (k : ℕ) → n ≡ k → saying k ≡ saying n
+words_at k e = sym (ap saying e)
 
 -- the longest words are `unknown event`
 pub saying_short : (n : ℕ) → n < 15 → length (saying n) ≤ 13
@@ -21,9 +18,6 @@ saying_short = is_yes_lem (all? 15 (λ n. length (saying n) ≤ 13) (λ n. le? (
 -- the numbers that a `match` leaves
 pub of_file : {n : ℕ} → n ≢ 0 → n ≢ 1 → n < 9 → (2 ≤ n) × (n ≤ 8)
 of_file a b l = (omega arith, omega arith)
-
-pub no_lines : {n : ℕ} → (2 ≤ n) × (n ≤ 8) → (1 ≤ n) × (n ≤ 11)
-no_lines h = (omega arith, omega arith)
 
 pub fourteen : {n : ℕ} → 9 ≤ n → n ≤ 14 → n ≢ 9 → n ≢ 10 → n ≢ 11 → n ≢ 12 → n ≢ 13 → n ≡ 14
 fourteen l h a b c d e = omega arith

@@ -1,12 +1,13 @@
 -- Laws of text put into bytes: what is put after it, and the length. Assumes nothing.
 use mathlib.Core.Path.{◌≡◌, refl, sym, ap, ap₂, subst, ◌∙◌}
-use mathlib.Core.List.{List, [], ◌∷◌, ◌++◌, append_assoc, append-nil}
-use Prim.Native.Nat.{ℕ, suc, ◌+◌, ◌≤◌, ◌<◌}
+use mathlib.Core.List.{List, [], ◌++◌, append_assoc, append-nil}
+use Prim.Native.Nat.{ℕ, ◌+◌, ◌≤◌}
 use native.Mathlib.Nat.{add-zero}
-use native.Mathlib.Numerals.{add-one}
 use native.Mathlib.Omega.{arith}
-use lib.ListN.{length, take, drop, set, length-append, length-drop, take-append-drop}
-use lib.Seq.{length-take-le, take_at, drop-append-add, drop-drop, set_split, append_snoc, paste, take-length}
+use lib.ListN.{length, take, drop, length-append, length-drop, take-append-drop}
+use lib.Seq.{length-take-le, take_at, drop-append-add, drop-drop, take-length}
+use borrow.Rule.Slice.PartMut.{put_mid}
+use Rattle.std.proofs.lemmas.Slice.{put_mid-paste}
 use Rattle.lines.specs.Text.{over, Wrote}
 
 module _ (s t : List ℕ) (at : ℕ) (room : at + length t ≤ length s) where
@@ -40,24 +41,13 @@ wrote_nothing s at l = record {
   end = omega arith;
 }
 
--- one byte
-pub wrote_one : (s : List ℕ) (at x : ℕ) → at < length s → Wrote s at (x ∷ []) (set s at x) (at + 1)
+-- a text copied whole, in the k bytes that are lent for it
+pub wrote_copied : (s t u : List ℕ) (at k : ℕ) → at + length t ≤ length s → u ≡ t → length t ≡ k → Wrote s at t (put_mid at k s u) (at + length t)
 unfolding over
-wrote_one s at x l = record {
-  room = omega arith;
-  left =
-      set_split s at x l ∙ sym (append_snoc (take at s) x (drop (suc at) s))
-      ∙ ap (λ (k : ℕ). take at s ++ (x ∷ []) ++ drop k s) (sym (add-one at));
-  end = refl;
-}
-
--- a text copied whole
-pub wrote_copied : (s t : List ℕ) (at i : ℕ) → at + length t ≤ length s → i ≡ length t → Wrote s at t (paste s at t i) (at + i)
-unfolding over
-wrote_copied s t at i l e = record {
+wrote_copied s t u at k l e size = record {
   room = l;
-  left = ap (λ (k : ℕ). paste s at t k) e ∙ ap (λ (x : List ℕ). take at s ++ x ++ drop (at + length t) s) (take-length t);
-  end = ap (λ (k : ℕ). at + k) e;
+  left = put_mid-paste at k s u t (length t) e size refl ∙ ap (λ (x : List ℕ). take at s ++ x ++ drop (at + length t) s) (take-length t);
+  end = refl;
 }
 
 -- ---- what was written, in general

@@ -17,6 +17,8 @@ use Rattle.chart.specs.Shape.{Shape}
 use Rattle.lines.specs.Text.{Wrote, heading, line}
 use Rattle.lines.specs.Follow.{numbers, Lined, Labelled, corners}
 use Rattle.lines.specs.declared.Kind.{Kind}
+use Rattle.lines.specs.declared.Page.{Page}
+use Rattle.lines.specs.Pages.{Put}
 use Rattle.lines.specs.Kinds.{Follows}
 use Rattle.lines.specs.Printed.{Reported, Printed}
 use Rattle.lines.proofs.Text.{wrote_as, wrote_first}
@@ -120,3 +122,8 @@ print w h = record {
   text = λ l e a. wrote_first (wrote_as w (h l e));
   size = λ l e a. omega (arith, (wrote_as w (h l e)).end);
 }
+
+-- and on a page of those bytes
+pub printed : {s : List ℕ} {n : ℕ} {b t : List ℕ} {p q r : Page} → r ≡ q → p.end ≡ 0 → Put p t q → ((l : List ℕ) → b ≡ report n l → t ≡ listing (drawing s) n l)
+    → Printed s n b p.out.now r.out.now r.end × (r.out.ghost_name ≡ p.out.ghost_name)
+printed {t = t} {p = p} {q = q} e z P h = rw e (print (subst (λ (k : ℕ). Wrote p.out.now k t q.out.now q.end) z P.wrote) h, P.same)

@@ -1,4 +1,5 @@
 pub mod Text
 pub mod Follow
+pub mod Pages
 pub mod Kinds
 pub mod Printed

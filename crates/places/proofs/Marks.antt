@@ -9,18 +9,11 @@ use lib.ListN.{set, length-set}
 use lib.Seq.{get_or-set_same, get_or-set_other}
 use Rattle.finite.proofs.Sum.{δ-eq, δ_other}
 use Rattle.drawing.specs.Drawing.{Drawing, darts, event, plain}
-use Rattle.drawing.specs.Conditions.{EventsKnown}
 use Rattle.words.specs.Tables.{nth}
 use Rattle.placing.specs.Board.{Own}
-use Rattle.places.specs.Steps.{Plains, Raised, Labels}
+use Rattle.places.specs.Steps.{Raised}
 
 module _ (g : Drawing) (L : List ℕ) where
-  pub raised_start : (out : List ℕ) → Plains g out → Raised g L out 0
-  raised_start out P = record { size = P.size; done = λ c l h. absurd (omega arith); left = λ c l h. P.each c l }
-
-  pub raised_done : (out : List ℕ) (v : ℕ) → EventsKnown g → g.events ≤ v → Raised g L out v → Labels g L out
-  raised_done out v E all M = record { size = M.size; each = λ c l. M.done c l (omega (arith, E c l)) }
-
   module _ (own : Own g L) (out : List ℕ) (v : ℕ) (M : Raised g L out v) (l : v < g.events) (c : ℕ) (got : c ≡ nth L v) where
     -- the event has no place: none of its corners is one
     pub raised_none : darts g ≤ c → Raised g L out (v + 1)
@@ -43,25 +36,25 @@ module _ (g : Drawing) (L : List ℕ) where
       pub was_plain : nth out c ≡ plain g c
       was_plain = M.left c near (omega (arith, there))
 
-      pub raised_place : (out' : List ℕ) → out' ≡ set out c (2 + nth out c) → Raised g L out' (v + 1)
+      pub raised_place : (out' : List ℕ) → out' ≡ set out c (nth out c + 2) → Raised g L out' (v + 1)
       raised_place out' e = rw e record {
-        size = length-set out c (2 + nth out c) ∙ M.size;
+        size = length-set out c (nth out c + 2) ∙ M.size;
         done = λ d h k. elim (ℕ_discrete d c) [
           | yes q ↦ rw q (omega (
             arith,
-            get_or-set_same out c (2 + nth out c) 0 (omega (arith, M.size)),
+            get_or-set_same out c (nth out c + 2) 0 (omega (arith, M.size)),
             was_plain,
             δ-eq (nth L (event g c)) c (ap (nth L) there ∙ sym got),
           ))
           | no q ↦ elim (ℕ_discrete (event g d) v) [
             | yes r ↦ omega (
               arith,
-              get_or-set_other out c d (2 + nth out c) 0 q,
+              get_or-set_other out c d (nth out c + 2) 0 q,
               M.left d h (omega arith),
               δ_other (nth L (event g d)) d (λ z. q (sym z ∙ ap (nth L) r ∙ sym got)),
             )
-            | no r ↦ get_or-set_other out c d (2 + nth out c) 0 q ∙ M.done d h (omega arith)
+            | no r ↦ get_or-set_other out c d (nth out c + 2) 0 q ∙ M.done d h (omega arith)
           ]
         ];
-        left = λ d h k. get_or-set_other out c d (2 + nth out c) 0 (λ q. omega (arith, there, ap (event g) q)) ∙ M.left d h (omega arith);
+        left = λ d h k. get_or-set_other out c d (nth out c + 2) 0 (λ q. omega (arith, there, ap (event g) q)) ∙ M.left d h (omega arith);
       }

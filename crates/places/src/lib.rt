@@ -7,84 +7,78 @@
 #![tactic(auto)]
 
 ghost use Rattle.std.specs.Prelude.{◌≡◌, ◌+◌, ◌%◌, ◌≤◌, ◌<◌, length};
+ghost use Rattle.finite.specs.Says.{Says};
 ghost use Rattle.drawing.specs.Drawing.{faces};
 ghost use Rattle.drawing.specs.Conditions.{EventsKnown};
-ghost use Rattle.rules.specs.Chart.{drawing};
-ghost use Rattle.chart.specs.Shape.{Shape};
+ghost use Rattle.chart.specs.Charts.{drawn};
 ghost use Rattle.words.specs.Tables.{nth};
 ghost use Rattle.placing.specs.Board.{hold, Own};
-ghost use Rattle.placing.specs.Search.{member, Sofar, Listing};
+ghost use Rattle.placing.specs.Search.{member, Listing};
 ghost use Rattle.search.specs.Steps.{Fresh};
-ghost use Rattle.places.specs.Steps.{Ranks, Turn, Seated, Upto, Begin, Late, Housed, Left, Settled, Rest, Plains, Raised, Labels};
+ghost use Rattle.places.specs.Steps.{Ranks, Turn, Seated, Begin, SeatedAll, Late, Housed, Left, Settled, Rest, Plains, Labels};
 ghost use Rattle.places.specs.Found.{Ready, Found};
 
-// Seats event e if it is a source or sink and touches a face with room: 2 if it is none, 1 if it sits, 0 if it is left over.
+use chart::Chart;
+
+// What an event's turn comes to: it needs no place, or has one; it sits down in one; or it is left over.
+#[derive(Clone, Copy, PartialEq, Eq)]
+enum Outcome {
+    Skipped,
+    Sat,
+    LeftOver,
+}
+
+// The tables stand as parameters and not in a struct: which of them a step writes, its signature then says, and no clause has to.
+
+// Seats event e if it is a source or sink and touches a face with room.
 fn seat(
-    chart: &[u8],
-    n: usize,
+    chart: &Chart<'_>,
     here: &[u16],
     poles: &[u16],
     first: &[u16],
     large: &mut [u16],
     spare: &mut [u16],
     e: usize,
-) -> usize
-    requires { Turn chart.now n here.now poles.now first.now large.old spare.old e }
-    ensures { Seated (drawing chart.now) here.now poles.now large.old spare.old e large.new spare.new result }
+) -> Outcome
+    requires { Turn (drawn chart.now) here.now poles.now first.now large.old spare.old e }
+    ensures { Seated (drawn chart.now) here.now poles.now large.old spare.old e large.new spare.new result }
 {
     if words::get(poles, e) != 1 {
-        return 2;
+        return Outcome::Skipped;
     }
     let d = words::get(first, e);
-    let c = search::room_near(chart, n, here, spare, d);
-    if 65535 <= c {
-        return 0;
-    }
-    search::sit(chart, n, here, large, spare, e, c);
-    1
+    let Some(c) = search::room_near(chart, here, spare, d) else {
+        return Outcome::LeftOver;
+    };
+    search::sit(chart, here, large, spare, e, c);
+    Outcome::Sat
 }
 
-// How far all have a place: one further than w where that was e, which is not left over.
-fn upto(w: usize, e: usize, r: usize) -> usize
-    requires { e < 65535 }
-    ensures { Upto w e r result }
-{
-    if r == 0 {
-        return w;
-    }
-    if w != e {
-        return w;
-    }
-    e + 1
-}
-
-// Everyone sits who can, in event order. Returns the first who is left over, or the number of events.
+// Everyone sits who can, in event order. Returns the first who is left over, if anyone is.
 fn seat_all(
-    chart: &[u8],
-    n: usize,
+    chart: &Chart<'_>,
     here: &[u16],
     poles: &[u16],
     first: &[u16],
     large: &mut [u16],
     spare: &mut [u16],
-) -> usize
-    requires { Begin chart.now n here.now poles.now first.now large.old spare.old }
-    ensures { Sofar (drawing chart.now) here.now (nth poles.now) (nth spare.old) result large.new spare.new }
+) -> Option<usize>
+    requires { Begin (drawn chart.now) here.now poles.now first.now large.old spare.old }
+    ensures { SeatedAll (drawn chart.now) here.now poles.now (nth spare.old) large.new spare.new result }
 {
-    let mut w = 0;
-    let mut e = 0;
-    while e < poles.len() {
-        let r = seat(chart, n, here, poles, first, large, spare, e);
-        w = upto(w, e, r);
-        e += 1;
+    let mut left = None;
+    for e in 0..poles.len() {
+        let outcome = seat(chart, here, poles, first, large, spare, e);
+        if outcome == Outcome::LeftOver {
+            left = left.or(Some(e));
+        }
     }
-    w
+    left
 }
 
-// Finds a place for event e if it is a source or sink that has none: 2 if it is not, 1 if it is placed, 0 if it has no place.
+// Finds a place for event e if it is a source or sink that has none.
 fn house(
-    chart: &[u8],
-    n: usize,
+    chart: &Chart<'_>,
     here: &[u16],
     poles: &[u16],
     first: &[u16],
@@ -93,24 +87,27 @@ fn house(
     rank: &mut [u16],
     via: &mut [u16],
     e: usize,
-) -> usize
-    requires { Late chart.now n here.now poles.now first.now large.old spare.old rank.old via.old e }
-    ensures { Housed (drawing chart.now) here.now poles.now large.old spare.old e large.new spare.new rank.new via.new result }
+) -> Outcome
+    requires { Late (drawn chart.now) here.now poles.now first.now large.old spare.old rank.old via.old e }
+    ensures { Housed (drawn chart.now) here.now poles.now large.old spare.old e large.new spare.new rank.new via.new result }
 {
     if words::get(poles, e) != 1 {
-        return 2;
+        return Outcome::Skipped;
     }
-    if words::get(large, e) < n {
-        return 2;
+    if words::get(large, e) < chart.darts {
+        return Outcome::Skipped;
     }
     let d = words::get(first, e);
-    search::seek(chart, n, here, large, spare, rank, via, e, d)
+    if search::seek(chart, here, large, spare, rank, via, e, d) {
+        Outcome::Sat
+    } else {
+        Outcome::LeftOver
+    }
 }
 
-// Places the sources and sinks that are left, from w on in event order. Returns the first that has no place, or 65535.
+// Places the sources and sinks that are left, from w on in event order. Returns the first that has no place, if one has none.
 fn settle(
-    chart: &[u8],
-    n: usize,
+    chart: &Chart<'_>,
     here: &[u16],
     poles: &[u16],
     first: &[u16],
@@ -119,81 +116,60 @@ fn settle(
     rank: &mut [u16],
     via: &mut [u16],
     w: usize,
-) -> usize
-    requires { Left chart.now n here.now poles.now first.now large.old spare.old w × Fresh (faces (drawing chart.now)) rank.old via.old }
-    ensures { Settled (drawing chart.now) here.now poles.now (hold (drawing chart.now) here.now large.old spare.old) large.new rank.new result }
+) -> Option<usize>
+    requires { Left (drawn chart.now) here.now poles.now first.now large.old spare.old w × Fresh (faces (drawn chart.now)) rank.old via.old }
+    ensures { Settled (drawn chart.now) here.now poles.now (hold (drawn chart.now) here.now large.old spare.old) large.new rank.new result }
 {
-    let mut e = w;
-    while e < poles.len() {
-        if house(chart, n, here, poles, first, large, spare, rank, via, e) == 0 {
-            return e;
+    for e in w..poles.len() {
+        let outcome = house(chart, here, poles, first, large, spare, rank, via, e);
+        if outcome == Outcome::LeftOver {
+            return Some(e);
         }
-        e += 1;
     }
-    65535
+    None
 }
 
 // 1 if the corner between a dart c and its successor d is plain, 0 if it is a switch.
 fn plain_of(c: usize, d: usize) -> u8
     ensures { result ≡ (c % 2 + d % 2) % 2 }
 {
-    ((c % 2 + d % 2) % 2) as u8
+    u8::from(c % 2 != d % 2)
 }
 
 // Writes the label that each corner has before anyone is placed: 1 if it is plain, else 0.
-fn write_plain(chart: &[u8], n: usize, labels: &mut [u8])
-    requires { Shape chart.now n × (length labels.old ≡ n) }
-    ensures { Plains (drawing chart.now) labels.new }
+fn write_plain(chart: &Chart<'_>, labels: &mut [u8])
+    requires { length labels.old ≡ chart.now.darts }
+    ensures { Plains (drawn chart.now) labels.new }
 {
-    let mut c = 0;
-    while c < n {
-        labels[c] = plain_of(c, chart::next_of(chart, n, c));
-        c += 1;
+    for (c, label) in labels.iter_mut().enumerate() {
+        *label = plain_of(c, chart.next_of(c));
     }
-}
-
-// Adds 2 to the label of the place of event v, if it has one.
-fn raise(chart: &[u8], n: usize, large: &[u16], labels: &mut [u8], v: usize)
-    requires { Shape chart.now n × (v < length large.now) × (length large.now ≡ (drawing chart.now).events) × Own (drawing chart.now) large.now × Raised (drawing chart.now) large.now labels.old v }
-    ensures { Raised (drawing chart.now) large.now labels.new (v + 1) }
-{
-    let c = words::get(large, v);
-    if n <= c {
-        return;
-    }
-    labels[c] = 2 + labels[c];
 }
 
 // Writes the label of each corner: 2 more where it is its event's place, 1 more where it is plain.
-fn write_labels(chart: &[u8], n: usize, large: &[u16], labels: &mut [u8])
-    requires { Shape chart.now n × (length labels.old ≡ n) × (length large.now ≡ (drawing chart.now).events) × EventsKnown (drawing chart.now) × Own (drawing chart.now) large.now }
-    ensures { Labels (drawing chart.now) large.now labels.new }
+fn write_labels(chart: &Chart<'_>, large: &[u16], labels: &mut [u8])
+    requires { (length labels.old ≡ chart.now.darts) × (length large.now ≡ (drawn chart.now).events) × EventsKnown (drawn chart.now) × Own (drawn chart.now) large.now }
+    ensures { Labels (drawn chart.now) large.now labels.new }
 {
-    write_plain(chart, n, labels);
-    let mut v = 0;
-    while v < large.len() {
-        raise(chart, n, large, labels, v);
-        v += 1;
+    write_plain(chart, labels);
+    for place in large {
+        let c = usize::from(*place);
+        if c < chart.darts {
+            labels[c] += 2;
+        }
     }
 }
 
-// 1 if event v is in the cut that was found where u had no place, else 0.
-fn in_cut(here: &[u16], large: &[u16], rank: &[u16], u: usize, v: usize) -> usize
+// Whether event v is in the cut that was found where u had no place.
+fn in_cut(here: &[u16], large: &[u16], rank: &[u16], u: usize, v: usize) -> bool
     requires { (v < length large.now) × Ranks here.now rank.now }
-    ensures { result ≡ member here.now large.now rank.now u v }
+    ensures { Says result (1 ≤ member here.now large.now rank.now u v) }
 {
     if u == v {
-        return 1;
+        return true;
     }
     let c = words::get(large, v);
-    if here.len() <= c {
-        return 0;
-    }
-    let at = words::get(here, c);
-    if 1 <= words::get(rank, at) {
-        return 1;
-    }
-    0
+    c < here.len() && 1 <= words::get(rank, words::get(here, c))
 }
 
 // Writes the events of the cut, ascending, and returns how many there are.
@@ -202,21 +178,18 @@ fn cut_list(here: &[u16], large: &[u16], rank: &[u16], u: usize, list: &mut [u16
     ensures { Listing (length large.now) (member here.now large.now rank.now u) list.new result }
 {
     let mut k = 0;
-    let mut v = 0;
-    while v < large.len() {
-        if 1 <= in_cut(here, large, rank, u, v) {
+    for v in 0..large.len() {
+        if in_cut(here, large, rank, u, v) {
             words::put(list, k, v);
             k += 1;
         }
-        v += 1;
     }
     k
 }
 
-// The searches on their tables: nothing is listed. Returns 65535 where all are placed; or writes a cut.
+// The searches on their tables: nothing is listed. Where not all are placed, writes a cut and returns how many events it has.
 fn searches(
-    chart: &[u8],
-    n: usize,
+    chart: &Chart<'_>,
     here: &[u16],
     first: &[u16],
     large: &mut [u16],
@@ -225,124 +198,83 @@ fn searches(
     via: &mut [u16],
     list: &mut [u16],
     w: usize,
-) -> usize
-    requires { Left chart.now n here.now list.old first.now large.old spare.old w × Fresh (faces (drawing chart.now)) rank.old via.old }
-    ensures { Rest (drawing chart.now) here.now list.old (hold (drawing chart.now) here.now large.old spare.old) large.new list.new result }
+) -> Option<usize>
+    requires { Left (drawn chart.now) here.now list.old first.now large.old spare.old w × Fresh (faces (drawn chart.now)) rank.old via.old }
+    ensures { Rest (drawn chart.now) here.now list.old (hold (drawn chart.now) here.now large.old spare.old) large.new list.new result }
 {
-    let r = settle(chart, n, here, list, first, large, spare, rank, via, w);
-    if 65535 <= r {
-        return 65535;
-    }
-    cut_list(here, large, rank, r, list)
+    let u = settle(chart, here, list, first, large, spare, rank, via, w)?;
+    Some(cut_list(here, large, rank, u, list))
 }
 
-// The tables of the searches over a few faces: only a chart where someone is left over pays for them.
-fn search_few(
-    chart: &[u8],
-    n: usize,
+// The tables of the searches over at most N faces: only a chart where someone is left over pays for them.
+fn search_in<const N: usize>(
+    chart: &Chart<'_>,
     here: &[u16],
     first: &[u16],
     large: &mut [u16],
     spare: &mut [u16],
     list: &mut [u16],
     w: usize,
-) -> usize
-    requires { Left chart.now n here.now list.old first.now large.old spare.old w × (faces (drawing chart.now) ≤ 32) }
-    ensures { Rest (drawing chart.now) here.now list.old (hold (drawing chart.now) here.now large.old spare.old) large.new list.new result }
+) -> Option<usize>
+    requires { Left (drawn chart.now) here.now list.old first.now large.old spare.old w × (faces (drawn chart.now) ≤ N) × (N ≤ 3072) }
+    ensures { Rest (drawn chart.now) here.now list.old (hold (drawn chart.now) here.now large.old spare.old) large.new list.new result }
 {
-    let mut rank = [0u16; 32];
-    let mut via = [0u16; 32];
+    let mut rank = [0u16; N];
+    let mut via = [0u16; N];
+    let (ranks, vias) = (&mut rank[..], &mut via[..]);
     let f = spare.len();
     searches(
         chart,
-        n,
         here,
         first,
         large,
         spare,
-        &mut rank[0..f],
-        &mut via[0..f],
+        &mut ranks[..f],
+        &mut vias[..f],
         list,
         w,
     )
 }
 
-// The tables of the searches over any faces.
-fn search_any(
-    chart: &[u8],
-    n: usize,
+// Everyone is placed; or a cut is written, and how many events it has is returned.
+fn place_all(
+    chart: &Chart<'_>,
     here: &[u16],
     first: &[u16],
     large: &mut [u16],
     spare: &mut [u16],
     list: &mut [u16],
-    w: usize,
-) -> usize
-    requires { Left chart.now n here.now list.old first.now large.old spare.old w }
-    ensures { Rest (drawing chart.now) here.now list.old (hold (drawing chart.now) here.now large.old spare.old) large.new list.new result }
+) -> Option<usize>
+    requires { Begin (drawn chart.now) here.now list.old first.now large.old spare.old }
+    ensures { Rest (drawn chart.now) here.now list.old (nth spare.old) large.new list.new result }
 {
-    let mut rank = [0u16; 3072];
-    let mut via = [0u16; 3072];
-    let f = spare.len();
-    searches(
-        chart,
-        n,
-        here,
-        first,
-        large,
-        spare,
-        &mut rank[0..f],
-        &mut via[0..f],
-        list,
-        w,
-    )
-}
-
-// Searches for the places of those who are left, if any are.
-fn rest(
-    chart: &[u8],
-    n: usize,
-    here: &[u16],
-    first: &[u16],
-    large: &mut [u16],
-    spare: &mut [u16],
-    list: &mut [u16],
-    w: usize,
-) -> usize
-    requires { Left chart.now n here.now list.old first.now large.old spare.old w }
-    ensures { Rest (drawing chart.now) here.now list.old (hold (drawing chart.now) here.now large.old spare.old) large.new list.new result }
-{
-    if list.len() <= w {
-        return 65535;
-    }
+    let w = seat_all(chart, here, list, first, large, spare)?;
     if spare.len() <= 32 {
-        return search_few(chart, n, here, first, large, spare, list, w);
+        search_in::<32>(chart, here, first, large, spare, list, w)
+    } else {
+        search_in::<3072>(chart, here, first, large, spare, list, w)
     }
-    search_any(chart, n, here, first, large, spare, list, w)
 }
 
-// Writes a labelling and returns 65535; or writes the events of a cut, ascending, and returns how many there are.
+// Writes a labelling, and returns None; or writes the events of a cut, ascending, and returns how many there are.
 // The list comes with the sources and sinks marked, and goes with the cut. The table large is scratch.
 pub fn find_places(
-    chart: &[u8],
-    n: usize,
+    chart: &Chart<'_>,
     here: &[u16],
     first: &[u16],
     spare: &mut [u16],
     large: &mut [u16],
     labels: &mut [u8],
     list: &mut [u16],
-) -> usize
-    requires { Shape chart.now n × Ready (drawing chart.now) here.now list.old first.now spare.old × (length large.old ≡ (drawing chart.now).events) × (length labels.old ≡ n) }
-    ensures { Found (drawing chart.now) labels.old labels.new list.new result }
+) -> Option<usize>
+    requires { Ready (drawn chart.now) here.now list.old first.now spare.old × (length large.old ≡ (drawn chart.now).events) × (length labels.old ≡ chart.now.darts) }
+    ensures { Found (drawn chart.now) labels.old labels.new list.new result }
 {
-    // nobody is placed
-    words::fill(large, 65535);
-    let w = seat_all(chart, n, here, list, first, large, spare);
-    let k = rest(chart, n, here, first, large, spare, list, w);
-    if k < 65535 {
-        return k;
+    // nobody is placed: 65535 is no corner (a table of Option would take twice the room)
+    large.fill(65535);
+    let cut = place_all(chart, here, first, large, spare, list);
+    if cut.is_none() {
+        write_labels(chart, large, labels);
     }
-    write_labels(chart, n, large, labels);
-    65535
+    cut
 }

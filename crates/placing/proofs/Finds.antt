@@ -37,10 +37,9 @@ search_start e T = record {
 }
 
 -- a face with room at once
-pub way_start : {g : Drawing} {here : List ℕ} (L : List ℕ) {s : List ℕ} {u : ℕ} {rank₀ via₀ rank via : List ℕ} {r : ℕ} → Reached here s (λ d. event g d ≡ u) rank₀ via₀ 0 rank via r → Way g here L s u rank via (r - 65537)
-way_start L {r = r} R =
-    let last : r - 65537 < r - 65536 = omega (arith, R.some) in
-    record { end = r - 65536; held = R.grown.held; inside = last; from = λ j a. inl (R.grown.new j (omega arith) (omega arith)); spare = R.room }
+pub way_start : {g : Drawing} {here : List ℕ} (L : List ℕ) {s : List ℕ} {u : ℕ} {rank₀ via₀ rank via : List ℕ} {t at : ℕ} → Reached here s (λ d. event g d ≡ u) rank₀ via₀ 0 rank via t at → Way g here L s u rank via at
+way_start L {t = t} R =
+    record { end = t; held = R.grown.held; inside = omega (arith, R.last); from = λ j a. inl (R.grown.new j (omega arith) (omega (arith, R.last))); spare = R.room }
 
 -- an event that is placed is at a corner of its own
 pub at_own : (g : Drawing) (L : List ℕ) → Own g L → (v : ℕ) → v < g.events → nth L v < darts g → event g (nth L v) ≡ v
@@ -82,10 +81,9 @@ module _ {g : Drawing} {here L s : List ℕ} {u : ℕ} {rank via : List ℕ} {h 
       first = λ d b e. seen_kept S.grown (nth here d) (Q.first d b e);
     }
 
-    pub way_step : {rank' via' : List ℕ} {r : ℕ} → Reached here s (PlacedIn g here L (nth here c)) rank via t rank' via' r → Way g here L s u rank' via' (r - 65537)
-    way_step {r = r} R =
-        let last : r - 65537 < r - 65536 = omega (arith, R.some) in
-        record { end = r - 65536; held = R.grown.held; inside = last; from = λ j a. from_more R.grown j (omega arith); spare = R.room }
+    pub way_step : {rank' via' : List ℕ} {t' at : ℕ} → Reached here s (PlacedIn g here L (nth here c)) rank via t rank' via' t' at → Way g here L s u rank' via' at
+    way_step {t' = t'} R =
+        record { end = t'; held = R.grown.held; inside = omega (arith, R.last); from = λ j a. from_more R.grown j (omega (arith, R.last)); spare = R.room }
 
   -- nothing is left to do: u and all who are placed in a listed face are too many
   module _ (l : t ≤ h) (u-in : u < g.events) (free : darts g ≤ nth L u) where

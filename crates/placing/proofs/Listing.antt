@@ -1,16 +1,16 @@
 -- The list of faces: it grows by one face, and holds none twice; it is taken back. Assumes nothing.
 use mathlib.Core.Path.{◌≡◌, refl, sym, ap, ◌∙◌, subst}
-use mathlib.Core.Logic.{◌≢◌, ◌⊎◌, inl, inr, ⊎_elim}
+use mathlib.Core.Logic.{◌≢◌}
 use mathlib.Core.List.{List}
 use Prim.Native.Nat.{ℕ, ◌+◌, ◌-◌, ◌≤◌, ◌<◌}
 use native.Mathlib.Decide.{ℕ_discrete, dec_lt}
 use native.Mathlib.Omega.{arith}
-use lib.ListN.{length, set, length-set}
-use lib.Seq.{get_or-set_same, get_or-set_other}
+use lib.ListN.{length, take, set, length-set}
+use lib.Seq.{get_or-set_same, get_or-set_other, get_or-take, length-take-le}
 use Rattle.finite.specs.Steps.{Into, Inj}
 use Rattle.finite.proofs.Perm.{inj_le, onto}
 use Rattle.words.specs.Tables.{nth}
-use Rattle.placing.specs.Search.{Seen, Blank, Held, Grown, Listed, Adds, Reached}
+use Rattle.placing.specs.Search.{Seen, Blank, Held, Lists, Grown, Listed, Added, Reached}
 
 -- ---- growing
 
@@ -69,9 +69,6 @@ module _ {here rank via : List ℕ} {t : ℕ} (H : Held here rank via t) where
   ends_few = inj_le t (length rank) (λ i. nth here (nth via i)) apart inside
 
   module _ (c : ℕ) (l : c < length here) where
-    pub listed_none : Seen rank (nth here c) → Listed here c rank via t rank via t
-    listed_none s = record { grown = grown_none (λ d. d ≡ c) H; seen = s }
-
     module _ (new : nth rank (nth here c) < 1) where
       -- a face that is not listed leaves room in the list
       pub end_in : t < length rank
@@ -147,83 +144,39 @@ module _ {here rank via : List ℕ} {t : ℕ} (H : Held here rank via t) {c : �
 
 -- the same, with the room of the face looked at
 module _ {here rank via : List ℕ} (s : List ℕ) {t : ℕ} (H : Held here rank via t) {c : ℕ} (l : c < length here) {f : ℕ} (e : f ≡ nth here c) where
-  pub added_old : Seen rank f → t < 65536 → Adds here s c rank via t rank via t
-  added_old w few = ((λ q. record { grown = grown_none _ H; seen = rw e at w }), λ q. absurd (omega arith))
-
   module _ (new : nth rank f < 1) {rank' via' : List ℕ} (r : rank' ≡ set rank f (t + 1)) (v : via' ≡ set via t c) where
-    pub added_full : nth s f < 1 → t + 1 < 65536 → Adds here s c rank via t rank' via' (t + 1)
-    added_full z few =
-        let M : Listed here c rank via t rank' via' (t + 1) = list_new H l e new r v in (
-          (λ q. record { grown = grown_as M.grown (λ d a i. (i, omega (arith, ap (nth s) (ap (nth here) i ∙ sym e)))); seen = M.seen }),
-          λ q. absurd (omega arith),
-        )
-
-    pub added_room : {x : ℕ} → x ≡ 65537 + t → 1 ≤ nth s f → Adds here s c rank via t rank' via' x
-    added_room {x} i z =
+    pub added_full : nth s f < 1 → Added here s c rank via t rank' via' (t + 1)
+    added_full z =
         let M : Listed here c rank via t rank' via' (t + 1) = list_new H l e new r v in
-        let end : x - 65536 ≡ t + 1 = omega arith in
-        let last : x - 65537 ≡ t = omega arith in (
-          (λ q. absurd (omega arith)),
-          λ q. record {
-            grown = rw end M.grown;
-            some = omega arith;
-            room = rw last (omega (arith, z, ap (nth s) (e ∙ ap (nth here) (sym (M.grown.new t (omega arith) (omega arith))))));
-          },
-        )
+        record { grown = grown_as M.grown (λ d a i. (i, omega (arith, ap (nth s) (ap (nth here) i ∙ sym e)))); seen = M.seen }
 
--- by other corners
-pub reached_as : {here s : List ℕ} {P Q : ℕ → Type 0} {rank via : List ℕ} {t : ℕ} {rank' via' : List ℕ} {r : ℕ}
-    → Reached here s P rank via t rank' via' r → ((d : ℕ) → d < length here → P d → Q d) → Reached here s Q rank via t rank' via' r
-reached_as R sub = record { grown = grown_as R.grown sub; some = R.some; room = R.room }
+    pub added_room : 1 ≤ nth s f → Reached here s (λ d. d ≡ c) rank via t rank' via' (t + 1) t
+    added_room z =
+        let M : Listed here c rank via t rank' via' (t + 1) = list_new H l e new r v in
+        record { grown = M.grown; last = refl; room = omega (arith, z, ap (nth s) (e ∙ ap (nth here) (sym (M.grown.new t (omega arith) (omega arith))))) }
 
--- ---- taking back: the first i entries are cleared
+-- ---- taking back
 
-pub record Clearing (here rank via : List ℕ) (t : ℕ) (rank' : List ℕ) (i : ℕ) : Type 0 where
-  pub held : Held here rank via t
-  pub within : i ≤ t
-  pub ranks : length rank' ≡ length rank
-  pub left : (f : ℕ) → (nth rank' f ≡ 0) ⊎ ((i < nth rank' f) × (nth rank' f ≡ nth rank f))
+-- the first t entries of a list
+module _ {here rank via : List ℕ} {t : ℕ} (H : Held here rank via t) where
+  pub held_in : t ≤ length via
+  held_in = omega (arith, ends_few H, H.vias)
 
-pub clear_start : {here rank via : List ℕ} {t : ℕ} → Held here rank via t → Clearing here rank via t rank 0
-clear_start {rank = rank} H = record {
-  held = H;
-  within = omega arith;
-  ranks = refl;
-  left = λ f. elim (ℕ_discrete (nth rank f) 0) [ yes e ↦ inl e | no d ↦ inr (omega arith, refl) ];
-}
+  pub held_size : length (take t via) ≡ t
+  held_size = length-take-le t via held_in
 
-module _ {here rank via : List ℕ} {t : ℕ} {rank' : List ℕ} {i : ℕ} (C : Clearing here rank via t rank' i) where
-  pub clear_via : i < t → i < length via
-  clear_via l = omega (arith, ends_few C.held, C.held.vias)
-
-  pub clear_corner : i < t → nth via i < length here
-  clear_corner l = (C.held.entry i l).0
-
-  pub clear_face : i < t → nth here (nth via i) < length rank'
-  clear_face l = omega (arith, C.held.into (nth via i) (clear_corner l), C.ranks)
-
-  pub clear_step : i < t → Clearing here rank via t (set rank' (nth here (nth via i)) 0) (i + 1)
-  clear_step l = record {
-    held = C.held;
-    within = omega arith;
-    ranks = length-set rank' (nth here (nth via i)) 0 ∙ C.ranks;
-    left = λ f. elim (ℕ_discrete f (nth here (nth via i))) [
-      | yes e ↦ inl (rw e (get_or-set_same rank' (nth here (nth via i)) 0 0 (clear_face l)))
-      | no d ↦ rw (get_or-set_other rank' (nth here (nth via i)) f 0 0 d) (⊎_elim (λ z. inl z) (λ w. inr (far f d w.0 w.1, w.1)) (C.left f))
-    ];
+  pub held_lists : Lists here rank (take t via)
+  held_lists = record {
+    into = H.into;
+    entry = λ i l. rw (get_or-take t via i 0 (omega (arith, held_size))) (H.entry i (omega (arith, held_size))).0;
+    found = λ f s.
+        let h = H.found f s in
+        let few : nth rank f ≤ t = h.0 in
+        (nth rank f - 1, omega (arith, held_size), rw (get_or-take t via (nth rank f - 1) 0 (omega arith)) h.1);
   }
-    where
-      far : (f : ℕ) → f ≢ nth here (nth via i) → i < nth rank' f → nth rank' f ≡ nth rank f → i + 1 < nth rank' f
-      far f d a e = elim (ℕ_discrete (nth rank f) (i + 1)) [
-        | yes q ↦
-            let h = C.held.found f (omega arith) in
-            let k : nth rank f - 1 ≡ i = omega arith in
-            absurd (d (sym h.1 ∙ ap (λ (x : ℕ). nth here (nth via x)) k))
-        | no q ↦ omega arith
-      ]
 
-  pub clear_done : t ≤ i → Blank rank'
-  clear_done l f = ⊎_elim (λ z. z) (λ w. absurd (last w.0 w.1)) (C.left f)
-    where
-      last : i < nth rank' f → nth rank' f ≡ nth rank f → ⊥
-      last a e = omega (arith, (C.held.found f (omega arith)).0)
+-- the first i entries of the list are cleared: a face that is still marked comes later
+pub record Clearing (here list rank : List ℕ) (i : ℕ) : Type 0 where
+  pub into : (c : ℕ) → c < length here → nth here c < length rank
+  pub entry : (j : ℕ) → j < length list → nth list j < length here
+  pub left : (f : ℕ) → Seen rank f → (j : ℕ) × (i ≤ j) × (j < length list) × (nth here (nth list j) ≡ f)

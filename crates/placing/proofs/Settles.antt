@@ -1,5 +1,5 @@
 -- Events placed in any order: the poles below e are placed, some of the others may be, and nobody else is. Assumes nothing.
-use mathlib.Core.Path.{◌≡◌, refl, sym, ap, ◌∙◌, subst}
+use mathlib.Core.Path.{◌≡◌, sym, ap, ◌∙◌, subst}
 use mathlib.Core.Logic.{◌≢◌, inl}
 use mathlib.Core.List.{List}
 use Prim.Native.Nat.{ℕ, ◌+◌, ◌*◌, ◌≤◌, ◌<◌}
@@ -46,10 +46,6 @@ pub all_as : {g : Drawing} {here : List ℕ} {poles room room' : ℕ → ℕ} {L
 all_as A e = record { own = A.own; each = A.each; none = A.none; fits = λ f l. omega (arith, A.fits f l, e f l) }
 
 module _ {g : Drawing} {here : List ℕ} {poles room : ℕ → ℕ} {e : ℕ} {L s : List ℕ} (S : Sofar g here poles room e L s) where
-  -- the room of a face is what it holds
-  pub sofar_own : Sofar g here poles (hold g here L s) e L s
-  sofar_own = record { valid = S.valid; within = S.within; total = λ f l. refl; done = S.done; only = S.only }
-
   pub settle_done : g.events ≤ e → All g here poles room L
   settle_done l = record {
     own = S.valid.own;

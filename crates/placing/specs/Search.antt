@@ -1,12 +1,12 @@
 -- What a search for a place lists, and what it leaves. Assumes nothing.
 --   Seen rank f                 the face f is listed
 --   Held here rank via t        the first t entries of via are corners of listed faces, each of another face; rank has the face's place, counted from 1
+--   Lists here rank list        the corners of the list are of faces that are listed, and each listed face is one of theirs
 --   Grown, Listed               more is listed: by corners that have a property; the face of a corner
 --   Added, Touched, Visited, Scanned    full faces are listed: the face of a corner; the faces that an event touches, that the event placed at a corner touches,
 --                               that the events placed in a corner's face touch
---   Reached                     the face that was listed last has room
---   Until A B r                 r is the list's end and A; or it is 65536 more, and B
---   Adds, Touches, Visits, Scans    full faces are listed, or one with room is reached
+--   Reached                     the face that was listed last, at the place at, has room
+--   Adds, Touches, Visits, Scans    full faces are listed, up to the new end; or one with room is reached, at a place of the list
 --   From                        the corner of an entry is the event u's, or that of an event placed in a face listed before
 --   Search                      a search for a place of u, with the first h entries done: all listed faces are full
 --   Way                         entry i has room, and from it the way back to u stands
@@ -14,7 +14,9 @@
 --   Placed                      u is placed, and who was placed before still is; nobody else is
 --   Sofar                       the poles below e are placed, some of the others may be, and nobody else is
 --   Listing                     the members of a set as an ascending list
-use Rattle.std.specs.Prelude.{◌≡◌, ◌≢◌, ◌⊎◌, List, ℕ, ◌+◌, ◌-◌, ◌≤◌, ◌<◌, min, length}
+use Rattle.std.specs.Prelude.{◌≡◌, ◌≢◌, ◌⊎◌, List, ℕ, ◌+◌, ◌-◌, ◌≤◌, ◌<◌, min, length, ⊤}
+use Rattle.std.specs.declared.ops.ControlFlow.{ControlFlow}
+use Rattle.std.specs.ControlFlow.{MatchControlFlow}
 use Rattle.finite.specs.Sums.{sum, δ}
 use Rattle.drawing.specs.Drawing.{Drawing, darts, event, faces}
 use Rattle.words.specs.Tables.{nth}
@@ -33,6 +35,11 @@ pub record Held (here rank via : List ℕ) (t : ℕ) : Type 0 where
   pub vias : length via ≡ length rank
   pub entry : (i : ℕ) → i < t → (nth via i < length here) × (nth rank (nth here (nth via i)) ≡ i + 1)
   pub found : (f : ℕ) → Seen rank f → (nth rank f ≤ t) × (nth here (nth via (nth rank f - 1)) ≡ f)
+
+pub record Lists (here rank list : List ℕ) : Type 0 where
+  pub into : (c : ℕ) → c < length here → nth here c < length rank
+  pub entry : (i : ℕ) → i < length list → nth list i < length here
+  pub found : (f : ℕ) → Seen rank f → (i : ℕ) × (i < length list) × (nth here (nth list i) ≡ f)
 
 -- ---- more is listed
 
@@ -77,27 +84,24 @@ pub record Scanned (g : Drawing) (here L s : List ℕ) (first : ℕ) (rank via :
   pub grown : Grown here (λ d. PlacedIn g here L (nth here first) d × Full here s d) rank via t rank' via' t'
   pub seen : (d : ℕ) → d < darts g → event g (nth L (event g d)) ≡ event g d → PlacedIn g here L (nth here first) d → Seen rank' (nth here d)
 
--- the list ends with a face that has room; r is its end and 65536 more
-pub record Reached (here s : List ℕ) (P : ℕ → Type 0) (rank via : List ℕ) (t : ℕ) (rank' via' : List ℕ) (r : ℕ) : Type 0 where
-  pub grown : Grown here P rank via t rank' via' (r - 65536)
-  pub some : 65537 ≤ r
-  pub room : 1 ≤ nth s (nth here (nth via' (r - 65537)))
-
-abbrev pub Until : Type 0 → Type 0 → ℕ → Type 0
-Until A B r = (r < 65536 → A) × (65536 ≤ r → B)
+-- the list ends with the face at the place at, which has room
+pub record Reached (here s : List ℕ) (P : ℕ → Type 0) (rank via : List ℕ) (t : ℕ) (rank' via' : List ℕ) (t' at : ℕ) : Type 0 where
+  pub grown : Grown here P rank via t rank' via' t'
+  pub last : at + 1 ≡ t'
+  pub room : 1 ≤ nth s (nth here (nth via' at))
 
 -- what each step answers
-abbrev pub Adds : List ℕ → List ℕ → ℕ → List ℕ → List ℕ → ℕ → List ℕ → List ℕ → ℕ → Type 0
-Adds here s c rank via t rank' via' r = Until (Added here s c rank via t rank' via' r) (Reached here s (λ d. d ≡ c) rank via t rank' via' r) r
+abbrev pub Adds : List ℕ → List ℕ → ℕ → List ℕ → List ℕ → ℕ → List ℕ → List ℕ → ℕ → ControlFlow ℕ ⊤ → Type 0
+Adds here s c rank via t rank' via' t' r = MatchControlFlow r (λ _. Added here s c rank via t rank' via' t') (Reached here s (λ d. d ≡ c) rank via t rank' via' t')
 
-abbrev pub Touches : Drawing → List ℕ → List ℕ → ℕ → List ℕ → List ℕ → ℕ → List ℕ → List ℕ → ℕ → Type 0
-Touches g here s v rank via t rank' via' r = Until (Touched g here s v rank via t rank' via' r) (Reached here s (λ d. event g d ≡ v) rank via t rank' via' r) r
+abbrev pub Touches : Drawing → List ℕ → List ℕ → ℕ → List ℕ → List ℕ → ℕ → List ℕ → List ℕ → ℕ → ControlFlow ℕ ⊤ → Type 0
+Touches g here s v rank via t rank' via' t' r = MatchControlFlow r (λ _. Touched g here s v rank via t rank' via' t') (Reached here s (λ d. event g d ≡ v) rank via t rank' via' t')
 
-abbrev pub Visits : Drawing → List ℕ → List ℕ → List ℕ → ℕ → List ℕ → List ℕ → ℕ → List ℕ → List ℕ → ℕ → Type 0
-Visits g here L s c rank via t rank' via' r = Until (Visited g here L s c rank via t rank' via' r) (Reached here s (PlacedAt g L c) rank via t rank' via' r) r
+abbrev pub Visits : Drawing → List ℕ → List ℕ → List ℕ → ℕ → List ℕ → List ℕ → ℕ → List ℕ → List ℕ → ℕ → ControlFlow ℕ ⊤ → Type 0
+Visits g here L s c rank via t rank' via' t' r = MatchControlFlow r (λ _. Visited g here L s c rank via t rank' via' t') (Reached here s (PlacedAt g L c) rank via t rank' via' t')
 
-abbrev pub Scans : Drawing → List ℕ → List ℕ → List ℕ → ℕ → List ℕ → List ℕ → ℕ → List ℕ → List ℕ → ℕ → Type 0
-Scans g here L s first rank via t rank' via' r = Until (Scanned g here L s first rank via t rank' via' r) (Reached here s (PlacedIn g here L (nth here first)) rank via t rank' via' r) r
+abbrev pub Scans : Drawing → List ℕ → List ℕ → List ℕ → ℕ → List ℕ → List ℕ → ℕ → List ℕ → List ℕ → ℕ → ControlFlow ℕ ⊤ → Type 0
+Scans g here L s first rank via t rank' via' t' r = MatchControlFlow r (λ _. Scanned g here L s first rank via t rank' via' t') (Reached here s (PlacedIn g here L (nth here first)) rank via t rank' via' t')
 
 -- ---- the search
 

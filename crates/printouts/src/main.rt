@@ -1,60 +1,45 @@
 // Reads charts on standard input, each with its length in 16 bits before it, and writes the listing of each under its name: C1, C2 and so on.
 #![tactic(auto)]
 
-ghost use Rattle.std.specs.Prelude.{◌≤◌, length};
+ghost use Rattle.std.specs.Prelude.{◌+◌, ◌≤◌, length, IfOk};
 
-use std::io;
+use streams::{StreamError, WriteError};
 
 // The name of chart k, and its listing.
-fn print_named(rt: &HostRuntime, k: usize, chart: &[u8], why: &mut Option<io::Error>) -> bool {
+fn print_named(rt: &HostRuntime, k: usize, chart: &[u8]) -> Result<(), WriteError> {
     let mut text = [0u8; 36864];
-    match print!(rt; "C{k}\n") {
-        Ok(()) => streams::write_listing(rt, chart, &mut text, why),
-        Err(e) => {
-            *why = Some(e);
-            false
-        }
-    }
+    print!(rt; "C{k}\n")?;
+    streams::write_listing(rt, chart, &mut text)
 }
 
-// Prints chart k, which stands at `at`, and answers where it ends; or 0, when it has said what is wrong.
-fn print_at(rt: &HostRuntime, input: &[u8], at: usize, k: usize) -> usize
-    requires { at ≤ length input.now }
-    ensures { result ≤ length input.now }
+// Prints chart k, which stands at `at`, and answers where it ends.
+fn print_at(rt: &HostRuntime, input: &[u8], at: usize, k: usize) -> Result<usize, StreamError>
+    ensures { IfOk result (λ end. (at + 2 ≤ end) × (end ≤ length input.now)) }
 {
-    let end = streams::chart_end(input, at);
-    if end < at + 2 {
-        streams::complain(rt, "printouts: standard input ends within a chart", None);
-        return 0;
-    }
-    let mut why = None;
-    if !print_named(rt, k, &input[at + 2..end], &mut why) {
-        streams::complain(rt, "printouts: standard output", why);
-        return 0;
-    }
-    end
+    let end = streams::chart_end(input, at).ok_or(StreamError::CutShort)?;
+    print_named(rt, k, &input[at + 2..end])?;
+    Ok(end)
 }
 
-fn print_all(rt: &HostRuntime, input: &[u8]) {
+fn print_all(rt: &HostRuntime, input: &[u8]) -> Result<(), StreamError> {
     let mut at = 0;
     let mut k = 1;
+    // a chart's length tells where the next one stands
     while at < input.len() {
-        let end = print_at(rt, input, at, k);
-        if end <= at {
-            return;
-        }
-        at = end;
+        at = print_at(rt, input, at, k)?;
         k += 1;
     }
+    Ok(())
+}
+
+fn print_input(rt: &HostRuntime) -> Result<(), StreamError> {
+    let mut input = [0u8; 65536];
+    let n = streams::read_all(rt, &mut input).map_err(StreamError::NotRead)?;
+    print_all(rt, &input[..n])
 }
 
 fn main(rt: HostRuntime) {
-    let mut input = [0u8; 65536];
-    let mut why = None;
-    let came = streams::read_all(&rt, &mut input, &mut why);
-    let streams::Input::Bytes(n) = came else {
-        streams::complain(&rt, "printouts: standard input", why);
-        return;
-    };
-    print_all(&rt, &input[0..n]);
+    if let Err(e) = print_input(&rt) {
+        streams::complain(&rt, "printouts", e);
+    }
 }

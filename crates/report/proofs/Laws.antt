@@ -14,7 +14,7 @@ use Rattle.rules.specs.Words.{bytes}
 use Rattle.rules.specs.Report.{writes, entry, report}
 use Rattle.rules.proofs.Bytes.{bytes-length}
 use Rattle.words.specs.Tables.{with_word}
-use Rattle.report.specs.Headers.{header, Listed}
+use Rattle.report.specs.Headers.{header}
 
 -- ---- results
 
@@ -41,9 +41,11 @@ writes_listed = listed (λ n. writes n ≡ true) refl refl refl
 -- ---- what the stores leave
 
 pub header_put : (s : List ℕ) (n c : ℕ) → 8 ≤ length s
-    → with_word (set (with_word (set (set (set s 0 69) 1 86) 2 82) 3 1) 5 n) 6 c ≡ header n c ++ drop 8 s
+    → with_word (set (with_word (69 ∷ 86 ∷ 82 ∷ drop 3 s) 3 1) 5 n) 6 c ≡ header n c ++ drop 8 s
 unfolding with_word
-header_put s n c h = sets-eq (header n c) s 0 h
+header_put s n c h =
+    sets-eq (1 ∷ 0 ∷ n ∷ c % 256 ∷ c / 256 ∷ []) (69 ∷ 86 ∷ 82 ∷ drop 3 s) 3 (omega (arith, length-drop 3 s))
+    ∙ ap (λ (q : List ℕ). header n c ++ q) (drop-drop 5 3 s)
 
 -- a number stored in two bytes
 word_put : (s : List ℕ) (i v : ℕ) → i + 2 ≤ length s → with_word s i v ≡ take i s ++ (v % 256 ∷ v / 256 ∷ drop (i + 2) s)
@@ -101,33 +103,28 @@ pub report_is : (n : ℕ) (l : List ℕ) → writes n ≡ true → report n l �
 unfolding report bytes
 report_is n l w = ap (λ (b : Bool). cond b (header n (length l) ++ cond (eqb n 0) l (bytes l)) []) w
 
--- an entry of a list has two bytes
-pub list_size : (b list : List ℕ) (n c : ℕ) → Listed b n list c → 8 + entry n * c ≡ 8 + 2 * c
-list_size b list n c L = simp (ne_eqb n 0 (λ e. omega (arith, L.low)))
-
-list_is : (n : ℕ) (l : List ℕ) {b list : List ℕ} {c : ℕ} → Listed b n list c → report n l ≡ header n (length l) ++ bytes l
-list_is n l L = report_is n l (writes_listed n L.low L.high) ∙ simp (ne_eqb n 0 (λ e. omega (arith, L.low)))
-
 -- the header put where the place for it was left
 headed : (b h t : List ℕ) → 8 ≤ length b → h ++ drop 8 (take 8 b ++ t) ≡ h ++ t
 headed b h t l = ap (λ (q : List ℕ). h ++ q) (drop_at (take 8 b) t 8 (length-take-le 8 b l))
 
--- the numbers behind it: the report with a list
-pub list_report : (b list : List ℕ) (n c : ℕ) → Listed b n list c
-    → header n c ++ drop 8 (behind b list c) ≡ report n (take c list) ++ drop (8 + 2 * c) b
-list_report b list n c L =
-    let l = take c list in
-    let rest = drop (8 + 2 * c) b in
-    let same : length l ≡ c = length-take-le c list L.held in
-    headed b (header n c) (bytes l ++ rest) (omega (arith, L.fits))
-    ∙ sym (append_assoc (header n c) (bytes l) rest)
-    ∙ ap (λ (q : List ℕ). q ++ rest) (ap (λ (k : ℕ). header n k ++ bytes l) (sym same) ∙ sym (list_is n l L))
+-- l is a list with the result n: an entry has two bytes, and the numbers put behind the header make the report
+module _ (n : ℕ) (l : List ℕ) (low : 12 ≤ n) (high : n ≤ 14) where
+  list_is : report n l ≡ header n (length l) ++ bytes l
+  list_is = report_is n l (writes_listed n low high) ∙ simp (ne_eqb n 0 (λ e. omega arith))
 
-pub list_length : (b list : List ℕ) (n c : ℕ) → Listed b n list c → 8 + 2 * c ≡ length (report n (take c list))
-list_length b list n c L =
-    let l = take c list in
-    let same : length l ≡ c = length-take-le c list L.held in
-    omega (arith, ap length (list_is n l L), bytes-length l)
+  pub list_size : 8 + entry n * length l ≡ 8 + 2 * length l
+  list_size = simp (ne_eqb n 0 (λ e. omega arith))
+
+  pub list_length : 8 + 2 * length l ≡ length (report n l)
+  list_length = omega (arith, ap length list_is, bytes-length l)
+
+  pub list_report : (b : List ℕ) → 8 ≤ length b
+      → header n (length l) ++ drop 8 (take 8 b ++ (bytes l ++ drop (8 + 2 * length l) b)) ≡ report n l ++ drop (8 + 2 * length l) b
+  list_report b h =
+      let rest = drop (8 + 2 * length l) b in
+      headed b (header n (length l)) (bytes l ++ rest) h
+      ∙ sym (append_assoc (header n (length l)) (bytes l) rest)
+      ∙ ap (λ (q : List ℕ). q ++ rest) (sym list_is)
 
 -- ---- labels written in place: a caller lends the bytes of b from 8 to 8 + n, then puts the header
 

@@ -4,20 +4,22 @@
 use mathlib.Core.Path.{◌≡◌, refl, sym, ap₂, ◌∙◌}
 use mathlib.Core.List.{List}
 use Prim.Native.Nat.{ℕ}
-use native.Mathlib.Omega.{arith}
+use Rattle.std.proofs.Common.{Option, Some, None}
 use Rattle.rules.specs.Report.{form, body}
 use Rattle.report.specs.Headers.{formed, body_place}
 use Rattle.report.specs.declared.Header.{Header}
-use Rattle.report.specs.declared.Header.TheVariants.{Good, Bad}
 
 -- what an answer says is said by no other
-formed_one : (a b : Header) → formed a ≡ formed b → a ≡ b
-formed_one (Good r c) (Good q d) e = let result : r ≡ q = cc in let count : c ≡ d = cc in ap₂ Good result count
-formed_one (Good r c) Bad e = let z : ◌≡◌ {A = ℕ} 0 1 = cc in absurd (omega arith)
-formed_one Bad (Good q d) e = let z : ◌≡◌ {A = ℕ} 0 1 = cc in absurd (omega arith)
-formed_one Bad Bad e = refl
+formed_one : (a b : Option Header) → formed a ≡ formed b → a ≡ b
+formed_one (Some h) (Some k) e =
+    let result : h.result ≡ k.result = cc in
+    let count : h.count ≡ k.count = cc in
+    ap₂ (λ (r c : ℕ). Some (record { result = r; count = c })) result count
+formed_one (Some h) None e = cc
+formed_one None (Some k) e = cc
+formed_one None None e = refl
 
-pub form_unique : (s : List ℕ) (a b : Header) → formed a ≡ form s → formed b ≡ form s → a ≡ b
+pub form_unique : (s : List ℕ) (a b : Option Header) → formed a ≡ form s → formed b ≡ form s → a ≡ b
 form_unique s a b p q = formed_one a b (p ∙ sym q)
 
 -- the report s starts at p; the parts have the bytes x and y, and start at a and b

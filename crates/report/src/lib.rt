@@ -6,28 +6,18 @@ ghost use Rattle.rules.specs.Words.{bytes};
 ghost use Rattle.rules.specs.Report.{writes as written, entry as entry_bytes, is_well_formed, form, body, report as bytes_of};
 ghost use Rattle.report.specs.Headers.{formed, body_place, header, Listed};
 
-// What stands in the header: the result and the count, or a bad form.
+// What stands in the header.
 #[derive(Clone, Copy)]
-pub enum Header {
-    Good(usize, usize),
-    Bad,
-}
-
-fn wide(x: u8) -> usize
-    ensures value { result ≡ x }
-    ensures upper_bound { result < 256 }
-{
-    x as usize
+pub struct Header {
+    pub result: usize,
+    pub count: usize,
 }
 
 // Whether a result writes a report.
 fn writes(res: usize) -> bool
     ensures { result ≡ written res }
 {
-    match res {
-        0 | 12..=14 => true,
-        _ => false,
-    }
+    matches!(res, 0 | 12..=14)
 }
 
 // How many bytes the report with a result and a count has.
@@ -39,43 +29,33 @@ fn size(res: usize, count: usize) -> usize
 }
 
 // At least 8 bytes, the mark, the version, a result that writes a report, and the exact length.
+#[tactic(auto, unfolding(rules::specs::Report::is_well_formed))]
 fn well_formed(report: &[u8]) -> bool
     ensures { result ≡ is_well_formed report.now }
 {
-    if report.len() < 8 {
-        return false;
-    }
-    if report[0] != b'E' {
-        return false;
-    }
-    if report[1] != b'V' {
-        return false;
-    }
-    if report[2] != b'R' {
-        return false;
-    }
-    if words::word(report, 3) != 1 {
-        return false;
-    }
-    let result = wide(report[5]);
-    if !writes(result) {
-        return false;
-    }
-    report.len() == size(result, words::word(report, 6))
+    report.len() >= 8
+        && report.starts_with(b"EVR")
+        && words::word(report, 3) == 1
+        && writes(usize::from(report[5]))
+        && report.len() == size(usize::from(report[5]), words::word(report, 6))
 }
 
-// The result and the count that a report holds, or that its form is bad.
-pub fn form_of(report: &[u8]) -> Header
+// The result and the count that a report holds; none if its form is bad.
+#[tactic(auto, using(crate::proofs::Good::form_long), unfolding(rules::specs::Report::form))]
+pub fn form_of(report: &[u8]) -> Option<Header>
     ensures { formed result ≡ form report.now }
 {
-    if well_formed(report) {
-        Header::Good(wide(report[5]), words::word(report, 6))
-    } else {
-        Header::Bad
+    if !well_formed(report) {
+        return None;
     }
+    Some(Header {
+        result: usize::from(report[5]),
+        count: words::word(report, 6),
+    })
 }
 
 // The body of a report, as that part of the caller's bytes: after the eight bytes of the header, or on bad form the empty part at its start.
+#[tactic(auto, using(crate::proofs::Good::form_long), unfolding(rules::specs::Report::body))]
 pub fn body_of(report: &[u8]) -> &[u8]
     ensures result_value { result.now ≡ body report.now }
     ensures ref_ptr_value { result.ref_ptr ≡ body_place report.entry.ref_ptr report.now }
@@ -92,32 +72,28 @@ pub fn put_header(report: &mut [u8], res: usize, count: usize)
     requires { (8 ≤ length report.old) × ((res < 256) × (count < 65536)) }
     ensures { report.new ≡ header res count ++ drop 8 report.old }
 {
-    report[0] = b'E';
-    report[1] = b'V';
-    report[2] = b'R';
+    report[..3].copy_from_slice(b"EVR");
     words::put_word(report, 3, 1);
     report[5] = res as u8;
     words::put_word(report, 6, count);
 }
 
-// Writes the first count numbers of a list behind the place of the header, low byte first.
-fn put_entries(report: &mut [u8], list: &[u16], count: usize)
-    requires { (count ≤ length list.now) × ((count < 65536) × (8 + 2 * count ≤ length report.old)) }
-    ensures { report.new ≡ take 8 report.old ++ (bytes (take count list.now) ++ drop (8 + 2 * count) report.old) }
+// Writes a list of numbers behind the place of the header, low byte first.
+fn put_entries(report: &mut [u8], list: &[u16])
+    requires { (length list.now < 65536) × (8 + 2 * length list.now ≤ length report.old) }
+    ensures { report.new ≡ take 8 report.old ++ (bytes list.now ++ drop (8 + 2 * length list.now) report.old) }
 {
-    let mut i = 0;
-    while i < count {
-        words::put_word(report, 8 + 2 * i, words::get(list, i));
-        i += 1;
+    for (i, x) in list.iter().enumerate() {
+        words::put_word(report, 8 + 2 * i, usize::from(*x));
     }
 }
 
-// Writes the report with the result 12, 13 or 14 and the first count numbers of a list; hands back how many bytes it has.
-pub fn put_list(report: &mut [u8], res: usize, list: &[u16], count: usize) -> usize
-    requires { Listed report.old res list.now count }
-    ensures { (report.new ≡ bytes_of res (take count list.now) ++ drop result report.old) × (result ≡ length (bytes_of res (take count list.now))) }
+// Writes the report with the result 12, 13 or 14 and the numbers of a list; hands back how many bytes it has.
+pub fn put_list(report: &mut [u8], res: usize, list: &[u16]) -> usize
+    requires { Listed report.old res list.now }
+    ensures { (report.new ≡ bytes_of res list.now ++ drop result report.old) × (result ≡ length (bytes_of res list.now)) }
 {
-    put_entries(report, list, count);
-    put_header(report, res, count);
-    size(res, count)
+    put_entries(report, list);
+    put_header(report, res, list.len());
+    size(res, list.len())
 }

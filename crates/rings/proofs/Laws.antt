@@ -17,10 +17,10 @@ use Rattle.finite.proofs.Yes.{says_as, says_equal}
 use Rattle.finite.proofs.Walk.{Walk, walk_step}
 use Rattle.drawing.specs.Drawing.{Drawing, darts, event, after}
 use Rattle.drawing.proofs.Rounds.{Keeps, Kept}
-use Rattle.drawing.proofs.Counted.{Level}
+use Rattle.drawing.proofs.Counted.{Level, Circled}
 use Rattle.rules.specs.Chart.{drawing}
 use Rattle.chart.specs.Shape.{Shape}
-use Rattle.rings.specs.Rounds.{Returned}
+use Rattle.rings.specs.Rounds.{Open}
 
 -- c is the successor of d, and x and y are their events
 pub says_keeps : (g : Drawing) (d c x y : ℕ) → c ≡ after g d → c < darts g → x ≡ event g c → y ≡ event g d → Says (eqb x y) (Keeps g d)
@@ -53,14 +53,14 @@ module _ (g : Drawing) (d total : ℕ) (S : Steady g d total) where
   steady_few few =
       omega (arith, S.adds, sum_mono d (after g) (λ k. 6144) (λ k l. omega (arith, (S.kept k l).0)), sum_const d 6144)
 
-  -- the darts add up to n * (n - 1) / 2
-  pub steady_done : (n : ℕ) → n ≡ d → n ≡ darts g → Says (eqb (2 * total + n) (n * n)) (Kept g × Level g)
-  steady_done n q r =
-      says_as (eqb (2 * total + n) (n * n)) (λ e. (λ k l. S.kept k (omega arith), rw (← r) (omega (arith, e, adds, sum-numbers n))))
-      (λ h. omega (arith, rw (← r) at h.1, adds, sum-numbers n)) (says_equal (2 * total + n) (n * n))
-    where
-      adds : total ≡ sum n (after g)
-      adds = S.adds ∙ ap (λ (x : ℕ). sum x (after g)) (sym q)
+  pub steady_at : (n t : ℕ) → n ≡ d → t ≡ total → Steady g n t
+  steady_at n t q r = rw (q, r) S
+
+  -- the darts add up to d * (d - 1) / 2
+  pub steady_done : d ≡ darts g → Says (eqb (2 * total + d) (d * d)) (Kept g × Level g)
+  steady_done r =
+      says_as (eqb (2 * total + d) (d * d)) (λ e. (λ k l. S.kept k (omega arith), rw (← r) (omega (arith, e, S.adds, sum-numbers d))))
+      (λ h. omega (arith, rw (← r) at h.1, S.adds, sum-numbers d)) (says_equal (2 * total + d) (d * d))
 
 -- n * n of few
 pub square_few : (n : ℕ) → n ≤ 6144 → n * n ≤ 37748736
@@ -76,13 +76,13 @@ module _ (g : Drawing) (d k c : ℕ) (W : Walk (after g) d k c) where
   pub walk_on : (e : ℕ) → e ≡ after g c → e ≢ d → Walk (after g) d (k + 1) e
   walk_on e q o = rw q (walk_step (after g) d k c W (λ r. o (q ∙ r)))
 
-  pub walk_back : (e : ℕ) → e ≡ after g c → e ≡ d → (left : ℕ) → k + 1 ≤ left → Returned g d left (k + 1)
+  pub walk_back : (e : ℕ) → e ≡ after g c → e ≡ d → Circled g d (k + 1)
   unfolding iter
-  walk_back e q r left h = record {
-    within = h;
-    ring = λ a. record { some = a; back = rw add-one (ap (after g) (sym W.here) ∙ sym q ∙ r); fresh = λ j x y. W.fresh j x (omega arith) };
-    none = λ a. absurd (omega arith);
+  walk_back e q r = record {
+    some = omega arith;
+    back = rw add-one (ap (after g) (sym W.here) ∙ sym q ∙ r);
+    fresh = λ j x y. W.fresh j x (omega arith);
   }
 
-  pub walk_open : (left : ℕ) → left ≡ k → Returned g d left 0
-  walk_open left q = record { within = omega arith; ring = λ a. absurd (omega arith); none = λ a j x y. W.fresh j x (omega arith) }
+  pub walk_open : (left : ℕ) → left ≡ k → Open g d left
+  walk_open left q = λ j x y. W.fresh j x (omega arith)

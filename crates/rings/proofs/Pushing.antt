@@ -13,7 +13,8 @@ use Rattle.finite.proofs.Sum.{δ-eq, δ_other, sum_change, sum_cong, sum_const, 
 use Rattle.drawing.specs.Drawing.{Drawing, darts, event}
 use Rattle.rules.specs.Chart.{drawing}
 use Rattle.words.specs.Tables.{nth}
-use Rattle.rings.specs.Joining.{From, Marked, bare, Queued, Ready, Grown, Pushed}
+use Rattle.chart.specs.Shape.{Shape}
+use Rattle.rings.specs.Joining.{From, Marked, bare, Queued, Readied, Grown, Push}
 
 -- ---- growing
 
@@ -82,30 +83,28 @@ empty g m q k e p r = record {
 
 -- ---- a push. The code has the event of x as v, and its mark as y
 
-module _ {s : List ℕ} {n x : ℕ} {m q : List ℕ} {t : ℕ} (A : Ready s n x m q t) (v y : ℕ) (at : v ≡ event (drawing s) x) where
+module _ {s : List ℕ} {n : ℕ} (S : Shape s n) {x : ℕ} {m q : List ℕ} {t : ℕ} (A : Readied (drawing s) x m q t)
+    (v y : ℕ) (at : v ≡ event (drawing s) x) where
   abbrev g : Drawing
   g = drawing s
 
-  inside : x < darts g
-  inside = omega (arith, A.dart, A.ground.shape.darts)
-
   known : v < g.events
-  known = omega (arith, at, A.ground.known x inside)
+  known = omega (arith, at, A.ground.known x A.dart)
 
   pub marked_in : v < length m
   marked_in = omega (arith, known, A.queued.marks)
 
   -- the queue is full: every event has its mark
-  pub full : length q ≤ t → Pushed g x m q t m q t
+  pub full : length q ≤ t → Push g x m q t m q t
   full l = record {
     queued = A.queued;
     grown = grown_none m q t;
-    here = bare-none g m A.queued.marks (omega (arith, A.queued.count, A.queued.room)) (event g x) (A.ground.known x inside);
+    here = bare-none g m A.queued.marks (omega (arith, A.queued.count, A.queued.room)) (event g x) (A.ground.known x A.dart);
   }
 
   -- the mark that is stored, a dart of the event
   a_mark : x ≢ 65535
-  a_mark e = omega (arith, inside, A.ground.shape.darts, A.ground.shape.few)
+  a_mark e = omega (arith, A.dart, S.darts, S.few)
 
   mark : nth (set m v x) v ≡ x
   mark = get_or-set_same m v x 0 marked_in
@@ -128,7 +127,7 @@ module _ {s : List ℕ} {n x : ℕ} {m q : List ℕ} {t : ℕ} (A : Ready s n x 
 
   own : (w : ℕ) → w < g.events → Marked (set m v x) w → (nth (set m v x) w < darts g) × (event g (nth (set m v x) w) ≡ w)
   own w l k = elim (ℕ_discrete w v) [
-    | yes e ↦ rw (e, mark) (inside, sym at)
+    | yes e ↦ rw (e, mark) (A.dart, sym at)
     | no e ↦ rw (get_or-set_other m v w x 0 e) (A.queued.own w l (before w e k))
   ]
 
@@ -140,7 +139,7 @@ module _ {s : List ℕ} {n x : ℕ} {m q : List ℕ} {t : ℕ} (A : Ready s n x 
 
   module _ (read : y ≡ nth m v) where
     -- the event has its mark: it gets another
-    stay : y ≢ 65535 → Pushed g x m q t (set m v x) (set q t x) t
+    stay : y ≢ 65535 → Push g x m q t (set m v x) (set q t x) t
     stay w =
         let h : Marked m v = λ r. w (read ∙ r) in
         record {
@@ -174,7 +173,7 @@ module _ {s : List ℕ} {n x : ℕ} {m q : List ℕ} {t : ℕ} (A : Ready s n x 
       apart : (i : ℕ) → i < t → event g (nth q i) ≢ event g x
       apart i p e = (A.queued.entry i p).1 (ap (nth m) (e ∙ sym at) ∙ sym read ∙ h)
 
-      add : Pushed g x m q t (set m v x) (set q t x) (t + 1)
+      add : Push g x m q t (set m v x) (set q t x) (t + 1)
       add = record {
         queued = record {
           marks = length-set m v x ∙ A.queued.marks;
@@ -183,7 +182,7 @@ module _ {s : List ℕ} {n x : ℕ} {m q : List ℕ} {t : ℕ} (A : Ready s n x 
           entry =
               below_more (λ (i : ℕ). (nth (set q t x) i < darts g) × Marked (set m v x) (event g (nth (set q t x) i))) t
               (λ i p. rw (earlier i p) ((A.queued.entry i p).0, keep (event g (nth q i)) (A.queued.entry i p).1))
-              (rw last (inside, here));
+              (rw last (A.dart, here));
           once = λ i j l p. elim (ℕ_discrete j t) [
             | yes e ↦ rw (earlier i (omega arith), e, last) (apart i (omega arith))
             | no e ↦ rw (earlier i (omega arith), earlier j (omega arith)) (A.queued.once i j l (omega arith))
@@ -203,7 +202,7 @@ module _ {s : List ℕ} {n x : ℕ} {m q : List ℕ} {t : ℕ} (A : Ready s n x 
 
     -- what is stored, with r for an event that had no mark
     pub store : y < 65536 → (r : ℕ) → (65534 < y → r ≡ 1) → (y ≤ 65534 → r ≡ 0)
-        → (m' q' : List ℕ) → m' ≡ set m v x → q' ≡ set q t x → Pushed g x m q t m' q' (t + r)
+        → (m' q' : List ℕ) → m' ≡ set m v x → q' ≡ set q t x → Push g x m q t m' q' (t + r)
     store few r one none m' q' e f = elim (dec_le y 65534) [
       | yes w ↦ let end : t + r ≡ t = omega (arith, none w) in rw (e, f, end) (stay (λ o. omega arith))
       | no w ↦ let end : t + r ≡ t + 1 = omega (arith, one (omega arith)) in rw (e, f, end) (add (omega arith))

@@ -13,7 +13,9 @@ use Rattle.drawing.specs.Conditions.{Rings}
 use Rattle.drawing.proofs.Counted.{Tally, Turns, tally_none, tally_same, tally_ring, turns_all, refuse_open, rings_whole}
 use Rattle.rules.specs.Chart.{drawing}
 use Rattle.words.specs.Tables.{nth}
-use Rattle.rings.specs.Joining.{Ground, From, start, along, Marked, Queued, Ready, Pushed, Rounded, Followed}
+use Rattle.chart.specs.Shape.{Shape}
+use Rattle.rings.specs.Joining.{Ground, From, start, along, Marked, Queued, Readied, Push, Lapped, Toured}
+use Rattle.rings.specs.Rounds.{Open}
 use Rattle.rings.proofs.Pushing.{empty, bare-all}
 
 pub record Closing (g : Drawing) (m q : List ℕ) (h t met : ℕ) : Type 0 where
@@ -24,7 +26,7 @@ pub record Closing (g : Drawing) (m q : List ℕ) (h t met : ℕ) : Type 0 where
   pub told : Tally g (λ i. event g (nth q i)) h met
   pub shut : Rings g → (i : ℕ) → i < h → (d : ℕ) → d < darts g → event g d ≡ event g (nth q i) → Marked m (event g (twin d))
 
-module _ {s : List ℕ} {n : ℕ} (G : Ground s n) where
+module _ {s : List ℕ} {n : ℕ} (S : Shape s n) (G : Ground (drawing s)) where
   abbrev g : Drawing
   g = drawing s
 
@@ -35,10 +37,10 @@ module _ {s : List ℕ} {n : ℕ} (G : Ground s n) where
     apart_inj k (λ i. event g (nth q i)) (λ i j a b. Q.once i j a (omega arith)),
   )
 
-  pub ready_first : (m q : List ℕ) (k : ℕ) → m ≡ replicate k 65535 → k ≡ g.events → length q ≡ g.events → Ready s n 0 m q 0
-  ready_first m q k e p r = record { ground = G; dart = omega (arith, G.shape.some); queued = empty g m q k e p r; joined = start }
+  pub ready_first : (m q : List ℕ) (k : ℕ) → m ≡ replicate k 65535 → k ≡ g.events → length q ≡ g.events → Readied g 0 m q 0
+  ready_first m q k e p r = record { ground = G; dart = omega (arith, S.darts, S.some); queued = empty g m q k e p r; joined = start }
 
-  pub opened : (m q m' q' : List ℕ) (t : ℕ) → Pushed g 0 m q 0 m' q' t → Closing g m' q' 0 t 0
+  pub opened : (m q m' q' : List ℕ) (t : ℕ) → Push g 0 m q 0 m' q' t → Closing g m' q' 0 t 0
   opened m q m' q' t P = record {
     queued = P.queued;
     within = omega arith;
@@ -53,7 +55,7 @@ module _ {s : List ℕ} {n : ℕ} (G : Ground s n) where
     ends = omega (arith, C.queued.count)
 
     pub met_few : met ≤ n
-    met_few = omega (arith, C.few, G.shape.darts)
+    met_few = omega (arith, C.few, S.darts)
 
     pub place : h < t → h < length q
     place l = omega (arith, ends, C.queued.room)
@@ -62,19 +64,25 @@ module _ {s : List ℕ} {n : ℕ} (G : Ground s n) where
       inside : x < darts g
       inside = omega (arith, (C.queued.entry h l).0, got)
 
-      pub ready : Ready s n x m q t
+      pub ready : Readied g x m q t
       ready =
           let e = C.queued.entry h l in
           record {
             ground = G;
-            dart = omega (arith, inside, G.shape.darts);
+            dart = inside;
             queued = C.queued;
             joined =
                 subst (λ (y : ℕ). From g (event g 0) (event g y)) (sym got)
                 (C.queued.real (event g (nth q h)) (G.known (nth q h) e.0) e.1);
           }
 
-      module _ (m' q' : List ℕ) (t' k : ℕ) (P : Rounded g x (n - met) m q t m' q' t' k) where
+      -- the walk does not come back within the darts left
+      pub refused : Open g x (n - met) → Rings g → ⊥
+      refused =
+          refuse_open g (λ i. event g (nth q i)) h met C.told G.kept x inside (ap (event g) got) G.known
+          (turns m q t C.queued (h + 1) (omega arith)) (n - met) (omega (arith, S.darts))
+
+      module _ (m' q' : List ℕ) (t' k : ℕ) (P : Lapped g x (n - met) m q t m' q' t' k) where
         -- the same places of the queue, with what was pushed
         told : Tally g (λ i. event g (nth q' i)) h met
         told =
@@ -84,32 +92,19 @@ module _ {s : List ℕ} {n : ℕ} (G : Ground s n) where
         there : event g x ≡ event g (nth q' h)
         there = ap (event g) (got ∙ sym (P.grown.same h l))
 
-        -- the walk does not come back within the darts left
-        pub refused : k < 1 → Followed g m' (n + 1)
-        refused z = record {
-          size = P.queued.marks;
-          whole = λ e. absurd (omega (arith, G.shape.darts));
-          refused = λ o.
-              refuse_open g (λ i. event g (nth q' i)) h met told G.kept x inside there G.known
-              (turns m' q' t' P.queued (h + 1) (omega (arith, P.grown.longer))) (n - met) (omega (arith, G.shape.darts)) (P.back.none z);
-          short = λ o. absurd (omega (arith, G.shape.darts));
-          met = λ o. absurd (omega (arith, G.shape.darts));
-          gone = λ o. absurd (omega (arith, G.shape.darts));
-        }
-
-        pub onward : 0 < k → Closing g m' q' (h + 1) t' (met + k)
-        onward z = record {
+        pub onward : Closing g m' q' (h + 1) t' (met + k)
+        onward = record {
           queued = P.queued;
           within = omega (arith, P.grown.longer);
-          few = omega (arith, P.back.within, G.shape.darts, C.few);
+          few = omega (arith, P.within, S.darts, C.few);
           first = P.grown.kept (event g 0) C.first;
-          told = tally_ring g (λ i. event g (nth q' i)) h met told G.kept x inside there k (P.back.ring z);
+          told = tally_ring g (λ i. event g (nth q' i)) h met told G.kept x inside there k P.ring;
           shut = λ R.
               below_more (λ (i : ℕ). (d : ℕ) → d < darts g → event g d ≡ event g (nth q' i) → Marked m' (event g (twin d))) h
               (λ i j d b r.
               P.grown.kept (event g (twin d))
               (C.shut R i j d b (r ∙ ap (event g) (P.grown.same i (omega arith)))))
-              (λ d b r. P.ends z R d b (r ∙ sym there));
+              (λ d b r. P.ends R d b (r ∙ sym there));
         }
 
     module _ (l : t ≤ h) where
@@ -119,19 +114,19 @@ module _ {s : List ℕ} {n : ℕ} (G : Ground s n) where
           let f = C.queued.found (event g d) (G.known d k) (closed R r) in
           C.shut R f.0 (omega (arith, f.1)) d k (sym f.2)
 
-      pub followed : Followed g m met
+      pub followed : Toured g m met
       followed = record {
         size = C.queued.marks;
+        few = C.few;
         whole = λ e.
             rings_whole g (λ i. event g (nth q i)) h met C.told G.kept G.known (turns m q t C.queued h C.within) e;
-        refused = λ o. absurd (omega (arith, C.few));
         short = λ o all R.
             let none = bare-all g m C.queued.marks (λ v k. all v (omega (arith, C.queued.marks))) in
             let every : h ≡ g.events = omega (arith, none, C.queued.count, C.within) in
             let T = turns m q t C.queued h C.within in
             omega (arith, C.told.exact R, turns_all g G.known (λ i. event g (nth q i)) h every T);
-        met = λ o R. record { size = C.queued.marks; own = C.queued.own; real = C.queued.real; each = λ v k f. closed R f };
-        gone = λ o. record {
+        met = λ R. record { size = C.queued.marks; own = C.queued.own; real = C.queued.real; each = λ v k f. closed R f };
+        gone = record {
           turn = λ i. event g (nth q i);
           many = h;
           told = C.told;

@@ -4,6 +4,7 @@ use mathlib.Core.Path.{◌≡◌, refl, sym, ap, ◌∙◌}
 use mathlib.Core.Logic.{◌≢◌}
 use mathlib.Core.Bool.{cond}
 use mathlib.Core.List.{List}
+use Rattle.std.specs.Prelude.{Some, None}
 use Prim.Native.Nat.{ℕ, ◌+◌, ◌-◌, ◌<◌, ◌≤◌}
 use native.Mathlib.Decide.{ℕ_discrete, dec_lt}
 use native.Mathlib.Omega.{arith}
@@ -18,13 +19,13 @@ use Rattle.finite.proofs.Yes.{says_as, says_equal}
 use Rattle.drawing.specs.Drawing.{Drawing, darts, event}
 use Rattle.drawing.specs.Conditions.{EventsKnown, Rings}
 use Rattle.drawing.proofs.Rounds.{Kept}
-use Rattle.drawing.proofs.Counted.{around, Tally, Turns, around_total, tally_same, tally_skip, tally_ring, turns_few, refuse_open, rings_whole}
+use Rattle.drawing.proofs.Counted.{around, Tally, Turns, Circled, around_total, tally_same, tally_skip, tally_ring, turns_few, refuse_open, rings_whole}
 use Rattle.rules.specs.Chart.{drawing}
 use Rattle.words.specs.Tables.{nth}
 use Rattle.chart.specs.Shape.{Shape}
 use Rattle.chart.specs.Held.{Picked}
-use Rattle.rings.specs.Rounds.{Returned}
-use Rattle.rings.specs.Joining.{Marked, Gone, Passed}
+use Rattle.rings.specs.Rounds.{Open, Returned}
+use Rattle.rings.specs.Joining.{Ground, Marked, Gone, Passed}
 
 unfoldable pub onto : (ℕ → ℕ) → ℕ → ℕ → ℕ → ℕ
 onto x k v i = cond (eqb i k) v (x i)
@@ -106,12 +107,12 @@ module _ (g : Drawing) (first : List ℕ) (v met : ℕ) (G : Gone g first v met)
       here : event g d ≡ next G.many
       here = own ∙ sym there
 
-      pub gone_ring : (left r : ℕ) → 0 < r → Returned g d left r → Gone g first (v + 1) (met + r)
-      gone_ring left r z W = gone_next (met + r) (tally_ring g next G.many met told K d h here r (W.ring z))
+      pub gone_ring : (r : ℕ) → Circled g d r → Gone g first (v + 1) (met + r)
+      gone_ring r C = gone_next (met + r) (tally_ring g next G.many met told K d h here r C)
 
       -- no return within the darts that are left
-      pub gone_open : EventsKnown g → (left r : ℕ) → r < 1 → darts g ≤ met + left → Returned g d left r → Rings g → ⊥
-      gone_open E left r z enough W = refuse_open g next G.many met told K d h here E turns left enough (W.none z)
+      pub gone_open : EventsKnown g → (left : ℕ) → darts g ≤ met + left → Open g d left → Rings g → ⊥
+      gone_open E left enough O = refuse_open g next G.many met told K d h here E turns left enough O
 
   -- every event has had its turn: all darts are met exactly if each event's darts are one ring
   module _ (K : Kept g) (E : EventsKnown g) (end : g.events ≤ v) where
@@ -131,18 +132,15 @@ module _ (g : Drawing) (first : List ℕ) (v met : ℕ) (G : Gone g first v met)
 
 -- ---- one event: the code has its mark as m, and the dart that stands at it as d
 
-module _ (s : List ℕ) (n : ℕ) (S : Shape s n) (K : Kept (drawing s)) (E : EventsKnown (drawing s))
+module _ {s : List ℕ} {n : ℕ} (S : Shape s n) (D : Ground (drawing s))
     (first some : List ℕ) (size : length first ≡ (drawing s).events) (P : Picked (drawing s) some)
     (v met : ℕ) (l : v < length first) (few : met ≤ n) (G : Gone (drawing s) first v met) where
   abbrev g : Drawing
   g = drawing s
 
   module _ (m : ℕ) (got : m ≡ nth first v) where
-    pub pass_marked : m ≢ 65535 → Passed g first (v + 1) met
-    pass_marked h = record {
-      counted = λ a. gone_marked g first v met G (λ e. h (got ∙ e));
-      refused = λ a. absurd (omega (arith, S.darts));
-    }
+    pub pass_marked : m ≢ 65535 → Passed g first (v + 1) (Some met)
+    pass_marked h = (omega (arith, S.darts), gone_marked g first v met G (λ e. h (got ∙ e)))
 
     module _ (h : m ≡ 65535) (d : ℕ) (q : d ≡ nth some v) where
       known : v < g.events
@@ -151,27 +149,19 @@ module _ (s : List ℕ) (n : ℕ) (S : Shape s n) (K : Kept (drawing s)) (E : Ev
       new : nth first v ≡ 65535
       new = sym got ∙ h
 
-      pub pass_bare : n ≤ d → Passed g first (v + 1) met
-      pass_bare o = record {
-        counted = λ a. gone_bare g first v met G known new (λ e k r. omega (arith, S.darts, P.each e k, ap (nth some) r));
-        refused = λ a. absurd (omega (arith, S.darts));
-      }
+      pub pass_bare : n ≤ d → Passed g first (v + 1) (Some met)
+      pass_bare o =
+          (omega (arith, S.darts), gone_bare g first v met G known new (λ e k r. omega (arith, S.darts, P.each e k, ap (nth some) r)))
 
-      module _ (o : d < n) (r : ℕ) (W : Returned g d (n - met) r) where
+      module _ (o : d < n) where
         inside : d < darts g
         inside = omega (arith, S.darts)
 
         own : event g d ≡ v
         own = ap (event g) q ∙ P.own v known (omega (arith, inside, q))
 
-        pub pass_open : r < 1 → Passed g first (v + 1) (n + 1)
-        pass_open z = record {
-          counted = λ a. absurd (omega (arith, S.darts));
-          refused = λ a. gone_open g first v met G known new K d inside own E (n - met) r z (omega (arith, S.darts)) W;
-        }
+        pub pass_open : Returned g d (n - met) None → Passed g first (v + 1) None
+        pass_open O = gone_open g first v met G known new D.kept d inside own D.known (n - met) (omega (arith, S.darts)) O
 
-        pub pass_ring : 0 < r → Passed g first (v + 1) (met + r)
-        pass_ring z = record {
-          counted = λ a. gone_ring g first v met G known new K d inside own (n - met) r z W;
-          refused = λ a. absurd (omega (arith, S.darts, W.within));
-        }
+        pub pass_ring : (r : ℕ) → Returned g d (n - met) (Some r) → Passed g first (v + 1) (Some (met + r))
+        pass_ring r W = (omega (arith, S.darts, W.0), gone_ring g first v met G known new D.kept d inside own r W.1)

@@ -4,7 +4,7 @@
 use mathlib.Core.Path.{◌≡◌, sym, ap, ◌∙◌, subst}
 use mathlib.Core.Logic.{◌≢◌}
 use mathlib.Core.List.{List}
-use Prim.Native.Nat.{ℕ, ◌+◌, ◌<◌, ◌≤◌}
+use Prim.Native.Nat.{ℕ, ◌+◌, ◌<◌}
 use native.Mathlib.Omega.{arith}
 use borrow.Author.Count.{below_more}
 use Rattle.finite.specs.Steps.{iter}
@@ -14,7 +14,9 @@ use Rattle.drawing.proofs.Twins.{twin_into}
 use Rattle.drawing.proofs.Rounds.{Kept, goes_inside, goes_there, after_reach}
 use Rattle.rules.specs.Chart.{drawing}
 use Rattle.rules.proofs.Bytes.{darts_even}
-use Rattle.rings.specs.Joining.{From, along, Marked, Queued, Ready, Grown, Pushed, Rounded}
+use Rattle.chart.specs.Shape.{Shape}
+use Rattle.rings.specs.Joining.{From, along, Marked, Queued, Readied, Grown, Push, Lapped}
+use Rattle.rings.specs.Rounds.{Open}
 use Rattle.rings.proofs.Laws.{walk_on, walk_back, walk_open}
 use Rattle.rings.proofs.Pushing.{grown_none, grown_more}
 
@@ -24,38 +26,35 @@ pub record Going (g : Drawing) (d : ℕ) (m₀ q₀ : List ℕ) (t₀ : ℕ) (m 
   pub grown : Grown m₀ q₀ t₀ m q t
   pub ends : (i : ℕ) → i < k → Marked m (event g (twin (iter (after g) i d)))
 
-module _ {s : List ℕ} {n d : ℕ} {m₀ q₀ : List ℕ} {t₀ : ℕ} (A : Ready s n d m₀ q₀ t₀) where
+module _ {s : List ℕ} {n : ℕ} (S : Shape s n) {d : ℕ} {m₀ q₀ : List ℕ} {t₀ : ℕ} (A : Readied (drawing s) d m₀ q₀ t₀) where
   abbrev g : Drawing
   g = drawing s
 
   abbrev K : Kept g
   K = A.ground.kept
 
-  dart : d < darts g
-  dart = omega (arith, A.dart, A.ground.shape.darts)
-
   pub begin : Going g d m₀ q₀ t₀ m₀ q₀ t₀ 0 d
   begin = record { way = walk_start (after g) d; queued = A.queued; grown = grown_none m₀ q₀ t₀; ends = λ i l. absurd (omega arith) }
 
   module _ (m q : List ℕ) (t k e : ℕ) (G : Going g d m₀ q₀ t₀ m q t k e) where
     inside : e < darts g
-    inside = rw G.way.here (goes_inside g K k d dart)
+    inside = rw G.way.here (goes_inside g K k d A.dart)
 
     there : event g e ≡ event g d
-    there = ap (event g) G.way.here ∙ goes_there g K k d dart
+    there = ap (event g) G.way.here ∙ goes_there g K k d A.dart
 
     pub small : e < n
-    small = omega (arith, inside, A.ground.shape.darts)
+    small = omega (arith, inside, S.darts)
 
     -- no return within the steps that are left
-    pub ended : (left : ℕ) → left ≡ k → Rounded g d left m₀ q₀ t₀ m q t 0
-    ended left o = record { queued = G.queued; grown = G.grown; back = walk_open g d k e G.way left o; ends = λ z. absurd (omega arith) }
+    pub ended : (left : ℕ) → left ≡ k → Open g d left
+    ended left o = walk_open g d k e G.way left o
 
     module _ (x : ℕ) (twins : x ≡ twin e) where
-      pub ready : Ready s n x m q t
+      pub ready : Readied g x m q t
       ready = record {
         ground = A.ground;
-        dart = omega (arith, twins, twin_into (darts g) (darts_even s) e inside, A.ground.shape.darts);
+        dart = omega (arith, twins, twin_into (darts g) (darts_even s) e inside);
         queued = G.queued;
         joined =
             subst (λ (y : ℕ). From g (event g 0) (event g y)) (sym twins)
@@ -63,7 +62,7 @@ module _ {s : List ℕ} {n d : ℕ} {m₀ q₀ : List ℕ} {t₀ : ℕ} (A : Rea
       }
 
       -- the code has the next dart as e'
-      module _ (e' : ℕ) (m' q' : List ℕ) (t' : ℕ) (P : Pushed g x m q t m' q' t') (goes : e' ≡ after g e) where
+      module _ (e' : ℕ) (m' q' : List ℕ) (t' : ℕ) (P : Push g x m q t m' q' t') (goes : e' ≡ after g e) where
         more : (i : ℕ) → i < k + 1 → Marked m' (event g (twin (iter (after g) i d)))
         more =
             below_more (λ (i : ℕ). Marked m' (event g (twin (iter (after g) i d)))) k
@@ -78,12 +77,13 @@ module _ {s : List ℕ} {n d : ℕ} {m₀ q₀ : List ℕ} {t₀ : ℕ} (A : Rea
           ends = more;
         }
 
-        pub done : e' ≡ d → (left : ℕ) → k + 1 ≤ left → Rounded g d left m₀ q₀ t₀ m' q' t' (k + 1)
+        pub done : e' ≡ d → (left : ℕ) → k < left → Lapped g d left m₀ q₀ t₀ m' q' t' (k + 1)
         done o left h = record {
           queued = P.queued;
           grown = grown_more G.grown P.grown;
-          back = walk_back g d k e G.way e' goes o left h;
-          ends = λ z R y l r.
-              let w = walk-all (after g) d k e G.way (sym goes ∙ o) y (after_reach g R d y dart l (sym r)) in
+          within = omega arith;
+          ring = walk_back g d k e G.way e' goes o;
+          ends = λ R y l r.
+              let w = walk-all (after g) d k e G.way (sym goes ∙ o) y (after_reach g R d y A.dart l (sym r)) in
               subst (λ (z : ℕ). Marked m' (event g (twin z))) w.2 (more w.0 (omega (arith, w.1)));
         }

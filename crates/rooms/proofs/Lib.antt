@@ -1,3 +1,2 @@
-pub mod Halving
 pub mod Rooms
 pub mod Flagging

@@ -5,223 +5,167 @@
 // all who are placed in listed faces are a crowd: too many for the faces that they touch.
 #![tactic(auto)]
 
-ghost use Rattle.std.specs.Prelude.{◌≡◌, ◌≤◌, ◌<◌, length};
+ghost use Rattle.std.specs.Prelude.{◌≡◌, ◌<◌, length, IfSome};
 ghost use Rattle.drawing.specs.Drawing.{event, after, faces};
-ghost use Rattle.rules.specs.Chart.{drawing};
-ghost use Rattle.chart.specs.Shape.{Shape};
-ghost use Rattle.placing.specs.Board.{turn as next_corner};
-ghost use Rattle.placing.specs.Search.{Blank, Held, Adds, Touches, Visits, Scans, Placed};
-ghost use Rattle.search.specs.Steps.{Reads, Near, Asks, Answer, Sits, Shifts, Seeks, Sought};
+ghost use Rattle.chart.specs.Charts.{drawn};
+ghost use Rattle.placing.specs.Board.{Board, turn as next_corner};
+ghost use Rattle.placing.specs.Search.{Blank, Lists, Adds, Touches, Visits, Scans, Placed};
+ghost use Rattle.search.specs.Lists.{Ready, Same, Begins, Answer};
+ghost use Rattle.search.specs.Steps.{Near, Sits, Shifts, Seeks, Sought};
 
-// Lists the face of corner c, unless it is listed. Returns the new end of the list, and 65536 more where the face has room.
-fn list_face(
-    here: &[u16],
-    spare: &[u16],
-    rank: &mut [u16],
-    via: &mut [u16],
-    t: usize,
-    c: usize,
-) -> usize
-    requires { Held here.now rank.old via.old t × (c < length here.now) × (length here.now ≤ 6144) × (length rank.old ≤ length spare.now) }
-    ensures { Adds here.now spare.now c rank.old via.old t rank.new via.new result }
-{
-    let f = words::get(here, c);
-    if 1 <= words::get(rank, f) {
-        return t;
-    }
-    words::put(via, t, c);
-    words::put(rank, f, t + 1);
-    if 1 <= words::get(spare, f) {
-        return 65537 + t;
-    }
-    t + 1
-}
+use chart::Chart;
+use std::ops::ControlFlow::{self, Break, Continue};
 
-// Takes the faces of the first t entries off the list: a search clears what it listed and no more.
-fn clear(here: &[u16], rank: &mut [u16], via: &[u16], t: usize)
-    requires { Held here.now rank.old via.now t }
-    ensures { Blank rank.new }
-{
-    let mut i = 0;
-    while i < t {
-        let c = words::get(via, i);
-        let f = words::get(here, c);
-        words::put(rank, f, 0);
-        i += 1;
-    }
-}
-
-// Lists the faces that the event of corner first touches, going round it, up to one that has room. Returns the new end, and
-// 65536 more where there is one.
-fn touch(
-    chart: &[u8],
-    n: usize,
-    here: &[u16],
-    spare: &[u16],
-    rank: &mut [u16],
-    via: &mut [u16],
-    start: usize,
-    first: usize,
-) -> usize
-    requires { Reads chart.now n here.now × Held here.now rank.old via.old start × (first < n) × (length rank.old ≤ length spare.now) }
-    ensures { Touches (drawing chart.now) here.now spare.now (event (drawing chart.now) first) rank.old via.old start rank.new via.new result }
-{
-    let mut t = start;
-    let mut c = first;
-    // the steps gone, fewer than there are darts: so the walk ends
-    let mut k: usize = 0;
-    loop {
-        t = list_face(here, spare, rank, via, t, c);
-        if 65536 <= t {
-            return t;
-        }
-        c = chart::next_of(chart, n, c);
-        if c == first {
-            return t;
-        }
-        k += 1;
-    }
-}
-
-// Where c is the place of its event, lists the faces that the event touches.
-fn visit(
-    chart: &[u8],
-    n: usize,
-    here: &[u16],
-    spare: &[u16],
-    large: &[u16],
-    rank: &mut [u16],
-    via: &mut [u16],
-    t: usize,
-    c: usize,
-) -> usize
-    requires { Reads chart.now n here.now × Held here.now rank.old via.old t × (c < n) × (length rank.old ≤ length spare.now) × (length large.now ≡ (drawing chart.now).events) }
-    ensures { Visits (drawing chart.now) here.now large.now spare.now c rank.old via.old t rank.new via.new result }
-{
-    let e = chart::event_of(chart, n, c);
-    let l = words::get(large, e);
-    if l == c {
-        return touch(chart, n, here, spare, rank, via, t, c);
-    }
-    t
-}
-
-// The next corner of the face of corner c.
-fn turn(chart: &[u8], n: usize, c: usize) -> usize
-    requires { Shape chart.now n × (c < n) × (after (drawing chart.now) c < n) }
-    ensures { result ≡ next_corner (drawing chart.now) c }
-{
-    words::twin(chart::next_of(chart, n, c))
-}
-
-// Lists the faces that the events placed in the face of corner first touch, going round the face, up to one that has room.
-fn scan(
-    chart: &[u8],
-    n: usize,
-    here: &[u16],
-    spare: &[u16],
-    large: &[u16],
-    rank: &mut [u16],
-    via: &mut [u16],
-    start: usize,
-    first: usize,
-) -> usize
-    requires { Reads chart.now n here.now × Held here.now rank.old via.old start × (first < n) × (length rank.old ≤ length spare.now) × (length large.now ≡ (drawing chart.now).events) }
-    ensures { Scans (drawing chart.now) here.now large.now spare.now first rank.old via.old start rank.new via.new result }
-{
-    let mut t = start;
-    let mut c = first;
-    // the steps gone, fewer than there are darts: so the walk ends
-    let mut k: usize = 0;
-    loop {
-        t = visit(chart, n, here, spare, large, rank, via, t, c);
-        if 65536 <= t {
-            return t;
-        }
-        c = turn(chart, n, c);
-        if c == first {
-            return t;
-        }
-        k += 1;
-    }
-}
-
-// Where a search stopped: the place of the list whose face has room, or 65535, and the end of the list.
+// What a search reads: the chart, the face of each corner, the room left in each face, and the place of each event.
 #[derive(Clone, Copy)]
-struct Stop {
-    at: usize,
+struct Seating<'c, 'a> {
+    chart: Chart<'c>,
+    here: &'a [u16],
+    spare: &'a [u16],
+    large: &'a [u16],
+}
+
+// The faces that a search has listed: in via, up to end, a corner of each, and in rank the place of each there, counted from 1.
+// A slice with its end: the memory is lent, and fixed.
+#[derive(Drop)]
+struct FaceList<'a> {
+    rank: &'a mut [u16],
+    via: &'a mut [u16],
     end: usize,
 }
 
-// Looks for a place of the event u of corner first. The list goes on from each of its faces, all full, up to one that has room.
-fn search(
-    chart: &[u8],
-    n: usize,
-    here: &[u16],
-    spare: &[u16],
-    large: &[u16],
-    rank: &mut [u16],
-    via: &mut [u16],
-    u: usize,
-    first: usize,
-) -> Stop
-    requires { Asks chart.now n here.now large.now spare.now rank.old via.old u first }
-    ensures { Answer (drawing chart.now) here.now large.now spare.now u rank.new via.new result.at result.end }
+// The next corner of the face of corner c.
+fn turn(chart: &Chart<'_>, c: usize) -> usize
+    requires { (c < chart.now.darts) × (after (drawn chart.now) c < chart.now.darts) }
+    ensures { result ≡ next_corner (drawn chart.now) c }
 {
-    let mut t = touch(chart, n, here, spare, rank, via, 0, first);
-    if 65536 <= t {
-        return Stop {
-            at: t - 65537,
-            end: t - 65536,
-        };
-    }
-    let mut h = 0;
-    while h < t {
-        let c = words::get(via, h);
-        t = scan(chart, n, here, spare, large, rank, via, t, c);
-        if 65536 <= t {
-            return Stop {
-                at: t - 65537,
-                end: t - 65536,
-            };
-        }
-        h += 1;
-    }
-    Stop { at: 65535, end: t }
+    words::twin(chart.next_of(c))
 }
 
-// A corner of the event of corner first whose face has room, the next from there on; or 65535. Most events find their place so, without a list.
-pub fn room_near(chart: &[u8], n: usize, here: &[u16], spare: &[u16], first: usize) -> usize
-    requires { Reads chart.now n here.now × (length spare.now ≡ faces (drawing chart.now)) × (first < n) }
-    ensures { Near (drawing chart.now) here.now spare.now first result }
+impl FaceList<'_> {
+    // Lists the face of corner c, unless it is listed; breaks off with its place there, where it has room.
+    fn add(&mut self, seating: &Seating<'_, '_>, c: usize) -> ControlFlow<usize>
+        requires { Ready seating.now self.old × (c < seating.now.chart.darts) }
+        ensures answer { Adds seating.now.here.now seating.now.spare.now c self.old.rank.now self.old.via.now self.old.end self.new.rank.now self.new.via.now self.new.end result }
+        ensures same { Same self.old self.new }
+    {
+        let f = words::get(seating.here, c);
+        if 1 <= self.rank[f] {
+            return Continue(());
+        }
+        let t = self.end;
+        words::put(self.via, t, c);
+        words::put(self.rank, f, t + 1);
+        self.end = t + 1;
+        if 1 <= words::get(seating.spare, f) {
+            return Break(t);
+        }
+        Continue(())
+    }
+
+    // Lists the faces that the event of corner first touches, going round it, up to one that has room.
+    fn touch(&mut self, seating: &Seating<'_, '_>, first: usize) -> ControlFlow<usize>
+        requires { Ready seating.now self.old × (first < seating.now.chart.darts) }
+        ensures answer { Touches (drawn seating.now.chart) seating.now.here.now seating.now.spare.now (event (drawn seating.now.chart) first) self.old.rank.now self.old.via.now self.old.end self.new.rank.now self.new.via.now self.new.end result }
+        ensures same { Same self.old self.new }
+    {
+        let mut c = first;
+        loop {
+            self.add(seating, c)?;
+            c = seating.chart.next_of(c);
+            if c == first {
+                return Continue(());
+            }
+        }
+    }
+
+    // Where c is the place of its event, lists the faces that the event touches.
+    fn visit(&mut self, seating: &Seating<'_, '_>, c: usize) -> ControlFlow<usize>
+        requires { Ready seating.now self.old × (c < seating.now.chart.darts) }
+        ensures answer { Visits (drawn seating.now.chart) seating.now.here.now seating.now.large.now seating.now.spare.now c self.old.rank.now self.old.via.now self.old.end self.new.rank.now self.new.via.now self.new.end result }
+        ensures same { Same self.old self.new }
+    {
+        let e = seating.chart.event_of(c);
+        if words::get(seating.large, e) == c {
+            return self.touch(seating, c);
+        }
+        Continue(())
+    }
+
+    // Lists the faces that the events placed in the face of corner first touch, going round the face, up to one that has room.
+    fn scan(&mut self, seating: &Seating<'_, '_>, first: usize) -> ControlFlow<usize>
+        requires { Ready seating.now self.old × (first < seating.now.chart.darts) }
+        ensures answer { Scans (drawn seating.now.chart) seating.now.here.now seating.now.large.now seating.now.spare.now first self.old.rank.now self.old.via.now self.old.end self.new.rank.now self.new.via.now self.new.end result }
+        ensures same { Same self.old self.new }
+    {
+        let mut c = first;
+        loop {
+            self.visit(seating, c)?;
+            c = turn(&seating.chart, c);
+            if c == first {
+                return Continue(());
+            }
+        }
+    }
+
+    // Looks for a place of the event of corner first. The list, empty at first, goes on from each of its faces, all full, up to one
+    // that has room: there it breaks off. Otherwise it comes to its end, with no place.
+    fn search(&mut self, seating: &Seating<'_, '_>, first: usize) -> ControlFlow<usize>
+        requires { Begins seating.now self.old first }
+        ensures answer { Answer seating.now first self.new result }
+        ensures same { Same self.old self.new }
+    {
+        self.touch(seating, first)?;
+        let mut h = 0;
+        // no range: the list grows while it is gone through
+        while h < self.end {
+            let c = usize::from(self.via[h]);
+            self.scan(seating, c)?;
+            h += 1;
+        }
+        Continue(())
+    }
+}
+
+// Takes the faces of a list's corners off it: a search clears what it listed and no more.
+fn clear(here: &[u16], rank: &mut [u16], list: &[u16])
+    requires { Lists here.now rank.old list.now }
+    ensures { Blank rank.new }
+{
+    for c in list {
+        let f = words::get(here, usize::from(*c));
+        words::put(rank, f, 0);
+    }
+}
+
+// A corner of the event of corner first whose face has room, the next from there on, if there is one. Most events find their place so, without a list.
+pub fn room_near(chart: &Chart<'_>, here: &[u16], spare: &[u16], first: usize) -> Option<usize>
+    requires { Board (drawn chart.now) here.now × (length spare.now ≡ faces (drawn chart.now)) × (first < chart.now.darts) }
+    ensures { IfSome result (Near (drawn chart.now) here.now spare.now first) }
 {
     let mut c = first;
-    let mut k = 0;
-    while k < n {
+    loop {
         if 1 <= words::get(spare, words::get(here, c)) {
-            return c;
+            return Some(c);
         }
-        c = chart::next_of(chart, n, c);
+        c = chart.next_of(c);
         if c == first {
-            return 65535;
+            return None;
         }
-        k += 1;
     }
-    65535
 }
 
 // Gives event e the corner c, whose face has room, as its place.
 pub fn sit(
-    chart: &[u8],
-    n: usize,
+    chart: &Chart<'_>,
     here: &[u16],
     large: &mut [u16],
     spare: &mut [u16],
     e: usize,
     c: usize,
 )
-    requires { Sits chart.now n here.now large.old spare.old e c }
-    ensures { Placed (drawing chart.now) here.now large.old spare.old e large.new spare.new }
+    requires { Sits (drawn chart.now) here.now large.old spare.old e c }
+    ensures { Placed (drawn chart.now) here.now large.old spare.old e large.new spare.new }
 {
     let f = words::get(here, c);
     words::put(large, e, c);
@@ -231,8 +175,7 @@ pub fn sit(
 
 // Moves events one by one, from the face with room at place start of the list back to the event u, which had no place.
 fn shift(
-    chart: &[u8],
-    n: usize,
+    chart: &Chart<'_>,
     here: &[u16],
     rank: &[u16],
     via: &[u16],
@@ -241,13 +184,13 @@ fn shift(
     u: usize,
     start: usize,
 )
-    requires { Shifts chart.now n here.now rank.now via.now large.old spare.old u start }
-    ensures { Placed (drawing chart.now) here.now large.old spare.old u large.new spare.new }
+    requires { Shifts (drawn chart.now) here.now rank.now via.now large.old spare.old u start }
+    ensures { Placed (drawn chart.now) here.now large.old spare.old u large.new spare.new }
 {
     let mut i = start;
     loop {
         let c = words::get(via, i);
-        let e = chart::event_of(chart, n, c);
+        let e = chart.event_of(c);
         let f = words::get(here, c);
         let old = words::get(large, e);
         words::put(large, e, c);
@@ -264,10 +207,9 @@ fn shift(
     }
 }
 
-// Places the event u of corner first by a search. 1: it is placed; 0: it has no place.
+// Places the event u of corner first by a search, if it has a place, and says whether it has.
 pub fn seek(
-    chart: &[u8],
-    n: usize,
+    chart: &Chart<'_>,
     here: &[u16],
     large: &mut [u16],
     spare: &mut [u16],
@@ -275,17 +217,22 @@ pub fn seek(
     via: &mut [u16],
     u: usize,
     first: usize,
-) -> usize
-    requires { Seeks chart.now n here.now large.old spare.old rank.old via.old u first }
-    ensures { Sought (drawing chart.now) here.now large.old spare.old u large.new spare.new rank.new via.new result }
+) -> bool
+    requires { Seeks (drawn chart.now) here.now large.old spare.old rank.old via.old u first }
+    ensures { Sought (drawn chart.now) here.now large.old spare.old u large.new spare.new rank.new via.new result }
 {
-    let stop = search(chart, n, here, spare, large, rank, via, u, first);
-    let i = stop.at;
-    if 65535 <= i {
-        return 0;
-    }
-    shift(chart, n, here, rank, via, large, spare, u, i);
-    let t = stop.end;
-    clear(here, rank, via, t);
-    1
+    let mut list = FaceList { rank, via, end: 0 };
+    let seating = Seating {
+        chart: *chart,
+        here,
+        spare,
+        large,
+    };
+    let Break(i) = list.search(&seating, first) else {
+        return false;
+    };
+    let FaceList { rank, via, .. } = list;
+    shift(chart, here, rank, via, large, spare, u, i);
+    clear(here, rank, &via[..i + 1]);
+    true
 }

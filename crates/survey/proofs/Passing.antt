@@ -25,13 +25,13 @@ past_order s g =
     let b = given_first parted [] s 0 a.1 in
     (a.0, b.0)
 
-pub past_faces : (s : List ℕ) → Given order_tests s 0 0 → Given face_tests s 0 0 → Past s
+pub past_faces : (s : List ℕ) → Given order_tests s 0 0 → Given face_tests s 0 0 → Past (drawing s)
 past_faces s g h =
     let p = past_order s g in
     record { rings = p.0; joined = p.1; planar = (given_first crossing [] s 0 h).0 }
 
-pub survey_clear : (s : List ℕ) (n v : ℕ) → Formed s n v → Given survey_tests s 0 0 → Clear s n v
-survey_clear s n v F g =
+pub survey_clear : (s : List ℕ) → Formed (drawing s) → Given survey_tests s 0 0 → Clear (drawing s)
+survey_clear s F g =
     let a = given_first order (parted ∷ crossing ∷ mixing ∷ circle ∷ []) s 0 g in
     let b = given_first parted (crossing ∷ mixing ∷ circle ∷ []) s 0 a.1 in
     let c = given_first crossing (mixing ∷ circle ∷ []) s 0 b.1 in

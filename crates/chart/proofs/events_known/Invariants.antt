@@ -1,10 +1,7 @@
-use Prim.Native.Nat.{ℕ, ◌-◌, ◌≤◌, ◌<◌}
+use Prim.Native.Nat.{ℕ, ◌<◌}
 use Rattle.drawing.specs.Drawing.{event}
-use Rattle.rules.specs.Chart.{drawing}
+use Rattle.chart.specs.Charts.{drawn}
 use Rattle.chart.proofs.events_known.Given as goal
 
 abbrev pub invariant-loop-d : goal.invariant-loop-d
-invariant-loop-d l = (l.d ≤ l.n) × ((k : ℕ) → k < l.d → event (drawing l.chart) k < (drawing l.chart).events)
-
-abbrev pub decreases-loop-d : goal.decreases-loop-d
-decreases-loop-d l = l.n - l.d
+invariant-loop-d l = (k : ℕ) → k < l.d → event (drawn l.chart) k < (drawn l.chart).events

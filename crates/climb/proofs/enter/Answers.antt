@@ -1,25 +1,15 @@
 -- `climb::enter` meets its contract. Assumes nothing.
 use mathlib.Core.Path.{ap}
 use native.Mathlib.Omega.{arith}
-use Prim.Native.Nat.{◌+◌, ◌*◌}
 use Rattle.words.specs.Tables.{nth}
 use Rattle.climb.specs.Back.{live, dead}
 use Rattle.climb.proofs.enter.Goals as goal
 
-pub get-requires : goal.get-requires
-get-requires c = omega (arith, c.event_of.ensures, c.requires.shape.1 (2 * c.args.a) (omega arith))
-
 pub returns-then-get-lt1 : goal.returns-then-get-lt1
 returns-then-get-lt1 c = dead (λ t h. absurd (omega (arith, c.if-get-lt1.true, c.get.ensures, ap (nth c.args.left.now) c.event_of.ensures)))
 
-pub get-requires-2 : goal.get-requires-2
-get-requires-2 c = omega (arith, c.event_of-h.ensures, c.requires.shape.1 (2 * c.args.a + 1) (omega arith))
-
 pub returns-then-get-lt1-2 : goal.returns-then-get-lt1-2
 returns-then-get-lt1-2 c = dead (λ t h. absurd (omega (arith, c.if-get-lt1-2.true, c.get-2.ensures, ap (nth c.args.left.now) c.event_of-h.ensures)))
-
-pub put-requires : goal.put-requires
-put-requires c = omega (arith, c.event_of-h.ensures, c.requires.shape.1 (2 * c.args.a + 1) (omega arith))
 
 pub returns : goal.returns
 returns c = rw (c.put.ensures, c.event_of-h.ensures) (live (omega (arith, c.if-get-lt1.false, c.get.ensures, ap (nth c.args.left.now) c.event_of.ensures)) (omega (arith, c.if-get-lt1-2.false, c.get-2.ensures, ap (nth c.args.left.now) c.event_of-h.ensures)))

@@ -1,30 +1,21 @@
--- `climb::lowest_mixed` meets its contract: no event passed is mixed. Assumes nothing.
+-- `climb::lowest_mixed` meets its contract: the first dart at a mixed event. Assumes nothing.
 use native.Mathlib.Omega.{arith}
+use Prim.Native.Nat.{◌<◌}
 use borrow.Author.Rules.{rules}
-use borrow.Author.Count.{below_more}
-use Rattle.finite.proofs.Yes.{says_yes, says_no}
-use Rattle.climb.proofs.Mixed.{found, none, first_event}
+use borrow.Author.Tests.{tests}
+use Rattle.std.proofs.lemmas.Grind.{get_or_default_zero}
+use Rattle.std.proofs.lemmas.Iterator.{YieldsList-from_slice, IsFirst-from_position}
+use Rattle.std.proofs.lemmas.Iterator.Adapters.{serves_from_places}
+use Rattle.chart.specs.Charts.{drawn}
+use Rattle.climb.proofs.Mixed.{Turns, Plain, lowest}
 use Rattle.climb.proofs.lowest_mixed.Goals as goal
 
-pub loop-v-init : goal.loop-v-init
-loop-v-init c = (search rules, λ u l. absurd (omega arith))
-
-pub mixed_at-requires : goal.mixed_at-requires
-mixed_at-requires c = (c.requires.0, c.requires.1, omega (arith, c.requires.2.inside c.loop-v.v (omega arith), c.get.ensures))
-
-pub returns-then-mixed_at : goal.returns-then-mixed_at
-returns-then-mixed_at c =
-    let v = c.loop-v in
-    let here = first_event _ _ v.v _ c.requires.2 (omega arith) c.get.ensures in
-    found _ c.requires.0.events.1 _ (omega arith) (rw here at (says_yes c.if-mixed_at.true c.mixed_at.ensures)) v.invariant.1
-
-pub loop-v-preserved : goal.loop-v-preserved
-loop-v-preserved c =
-    let v = c.loop-v in
-    let here = first_event _ _ v.v _ c.requires.2 (omega arith) c.get.ensures in
-    (search rules, below_more _ _ v.invariant.1 (rw (← here) (let no = says_no c.if-mixed_at.false c.mixed_at.ensures in omega (arith, no))))
+pub position-requires-clause-callable : goal.position-requires-clause-callable
+position-requires-clause-callable c = serves_from_places (YieldsList-from_slice c.args.first.now c.iter.ensures.rest) (λ x q r. search rules) (λ x k l e.
+    let d : x.now < c.args.chart.now.darts = omega (arith, get_or_default_zero _ k x.now l, c.requires.1.inside k (omega (arith, c.requires.1.size))) in
+    search (rules, c.requires))
 
 pub returns : goal.returns
 returns c =
-    let l = c.loop-v in
-    none _ c.requires.0.events.1 l.v (omega arith) l.invariant.1
+    let g = drawn c.args.chart.now in
+    lowest g _ c.requires.1 _ (IsFirst-from_position _ _ _ (Turns g) (Plain g) c.position.ensures.ran (YieldsList-from_slice c.args.first.now c.iter.ensures.rest) (λ x q k. search (rules, tests)) (λ x q k. search (rules, tests)))

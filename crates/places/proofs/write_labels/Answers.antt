@@ -1,25 +1,17 @@
 -- `places::write_labels` meets its contract: the places of the events below v are marked. Assumes nothing.
-use mathlib.Core.Path.{sym, ◌∙◌}
 use native.Mathlib.Omega.{arith}
-use borrow.Author.Rules.{rules}
-use Rattle.places.proofs.Marks.{raised_start, raised_done}
+use Prim.Native.Nat.{◌<◌}
+use Rattle.chart.specs.Charts.{drawn}
+use Rattle.places.proofs.Marks.{raised_none, raised_place}
 use Rattle.places.proofs.write_labels.Goals as goal
+use Rattle.places.proofs.write_labels.Goals.{then-c-chart, else-c-chart}
 
-pub loop-v-init : goal.loop-v-init
-loop-v-init c = (omega arith, raised_start _ _ _ c.write_plain.ensures)
-
-pub raise-requires : goal.raise-requires
-raise-requires c =
+pub loop-place-preserved : goal.loop-place-preserved
+loop-place-preserved c =
     let p = c.requires in
-    (p.0, c.loop-v-test.true, p.2, p.4, c.loop-v.invariant.1)
-
-pub loop-v-preserved : goal.loop-v-preserved
-loop-v-preserved c = (search rules, c.raise.ensures)
-
-pub shape_of-labels : goal.shape_of-labels
-shape_of-labels c = let p = c.requires in c.loop-v.invariant.1.size ∙ sym p.0.darts ∙ sym p.1
-
-pub returns : goal.returns
-returns c =
-    let p = c.requires in
-    raised_done _ _ _ _ p.3 (omega (arith, c.loop-v-test.false, p.2)) c.loop-v.invariant.1
+    let S = c.args.chart.now.shape in
+    let event : c.loop-place.place-index < (drawn c.args.chart.now).events = omega (arith, p.1) in
+    elim c.if-c-chart.branch [
+      | then-c-chart w ↦ raised_place _ _ p.3 _ _ c.loop-place.invariant event _ c.from-c.ensures (omega (arith, w.if-c-chart.true, S.darts)) _ w.labels-is
+      | else-c-chart w ↦ rw w.labels-is (raised_none _ _ p.3 _ _ c.loop-place.invariant event _ c.from-c.ensures (omega (arith, w.if-c-chart.false, S.darts)))
+    ]

@@ -6,4 +6,5 @@ use Rattle.rings.proofs.joins_all.Goals as goal
 pub returns : goal.returns
 returns c =
     let p = c.requires in
-    says_as c.all_marked.result (all_joined _ _ p.0 p.1 _ p.2) (joined_all _ _ p.0 p.1 _ p.2) c.all_marked.ensures
+    let S = c.args.chart.now.shape in
+    says_as c.all_marked.result (all_joined S p.0 _ p.1) (joined_all S p.0 _ p.1) c.all_marked.ensures

@@ -1,10 +1,14 @@
 use Prim.Native.Nat.{◌-◌}
-use Rattle.rules.specs.Chart.{drawing}
+use Rattle.chart.specs.Charts.{drawn}
+use Rattle.rings.specs.Joining.{Lent}
 use Rattle.rings.proofs.Reaching.{Closing}
 use Rattle.rings.proofs.reach.Given as goal
 
 abbrev pub invariant-loop-head : goal.invariant-loop-head
-invariant-loop-head l = Closing (drawing l.chart) l.first l.queue l.head l.tail l.met
+invariant-loop-head l = record {
+  lent : Lent l.initial.found l.found;
+  closing : Closing (drawn l.chart) l.found.first.now l.found.queue.now l.head l.found.end l.met;
+}
 
 abbrev pub decreases-loop-head : goal.decreases-loop-head
-decreases-loop-head l = (drawing l.chart).events - l.head
+decreases-loop-head l = (drawn l.chart).events - l.head

@@ -4,4 +4,4 @@ use Rattle.rooms.proofs.Flagging.{poled}
 use Rattle.rooms.proofs.pole_table.Goals as goal
 
 pub returns : goal.returns
-returns c = poled _ _ _ _ _ c.requires.0 c.mark_heads.ensures c.decide.ensures refl
+returns c = poled _ _ _ _ _ c.args.chart.now.shape c.mark_heads.ensures c.decide.ensures refl

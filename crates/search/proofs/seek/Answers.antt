@@ -1,24 +1,20 @@
 -- `search::seek` meets its contract: the search gives the way or a crowd. Assumes nothing.
+use mathlib.Core.Path.{sym}
 use native.Mathlib.Omega.{arith}
-use mathlib.Core.Path.{refl, ◌∙◌}
+use Rattle.placing.proofs.Listing.{held_in, held_size, held_lists}
 use Rattle.search.proofs.seek.Goals as goal
 
-pub returns-then-i-ge65535 : goal.returns-then-i-ge65535
-returns-then-i-ge65535 c =
-    let found = c.search-stop.ensures in
-    record { few = omega arith; ranks = found.ranks; placed = λ q. absurd (omega arith); stuck = λ q. (refl, refl, found.stuck c.if-i-ge65535.true) }
+-- what is listed
+pub slice_bounds-clear-end : goal.slice_bounds-clear-end
+slice_bounds-clear-end c = let found = c.in-Break.ensures.answer in omega (arith, held_in found.held, found.stop.1)
 
-pub shift-requires : goal.shift-requires
-shift-requires c =
-    let found = c.search-stop.ensures in
-    record { reads = c.requires.asks.reads; valid = c.requires.asks.valid; few = c.requires.few; way = found.way (omega (arith, c.if-i-ge65535.false)); free = c.requires.asks.free }
+pub slice_bounds-clear-end-2 : goal.slice_bounds-clear-end-2
+slice_bounds-clear-end-2 c = let found = c.in-Break.ensures.answer in rw found.stop.1 (sym (held_size found.held))
 
-pub returns : goal.returns
-returns c =
-    let found = c.search-stop.ensures in
-    record {
-      few = omega arith;
-      ranks = c.rank-2-1.given ∙ found.ranks;
-      placed = λ q. (c.shift.ensures, record { ranks = c.rank-2-1.given ∙ found.ranks; vias = found.held.vias ∙ found.ranks; blank = c.clear.ensures });
-      stuck = λ q. absurd (omega arith);
-    }
+pub clear-requires : goal.clear-requires
+clear-requires c = let found = c.in-Break.ensures.answer in rw found.stop.1 (held_lists found.held)
+
+pub overflow_add-i : goal.overflow_add-i
+overflow_add-i c =
+    let found = c.in-Break.ensures.answer in
+    omega (arith, held_in found.held, found.stop.1, found.held.vias, found.held.ranks, c.requires.asks.board.keyed.size, c.args.chart.now.shape.darts, c.args.chart.now.shape.few)

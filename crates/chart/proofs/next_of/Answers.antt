@@ -1,7 +1,0 @@
--- `chart::next_of` meets its contract: the second table is the part of the chart after the first. Assumes nothing.
-use mathlib.Core.Path.{sym, ◌∙◌}
-use Rattle.chart.proofs.Laws.{next_in}
-use Rattle.chart.proofs.next_of.Goals as goal
-
-pub returns : goal.returns
-returns c = let p = c.requires in c.word.ensures ∙ sym (next_in _ _ _ p.0 p.1)
