@@ -39,7 +39,30 @@ fn say_entries(rt: &HostRuntime, report: &[u8]) -> io::Result<()> {
     }
 }
 
+fn say_report(rt: &HostRuntime, report: &[u8]) -> io::Result<()> {
+    let written = report.len();
+    print!(rt; " written ")?;
+    print!(rt; "{written}")?;
+    print!(rt; " entries")?;
+    say_entries(rt, report)
+}
+
 // ---- lines
+
+// Each word and each number is a write of its own: where the system takes no more, what stands is whole words.
+fn say_tested(
+    rt: &HostRuntime,
+    k: usize,
+    number: usize,
+    verdict: judge::Verdict,
+) -> io::Result<()> {
+    print!(rt; "chart ")?;
+    print!(rt; "{k}")?;
+    print!(rt; " result ")?;
+    print!(rt; "{number}")?;
+    print!(rt; " judge ")?;
+    print!(rt; "{verdict}")
+}
 
 // The line of chart k, which got the number and the report.
 fn say_line(
@@ -51,11 +74,9 @@ fn say_line(
     report: &[u8],
 ) -> io::Result<()> {
     let verdict = judge::judge(chart, report);
-    print!(rt; "chart {k} result {number} judge {verdict}")?;
+    say_tested(rt, k, number, verdict)?;
     if is_shown {
-        let written = report.len();
-        print!(rt; " written {written} entries")?;
-        say_entries(rt, report)?;
+        say_report(rt, report)?;
     }
     println!(rt;)
 }

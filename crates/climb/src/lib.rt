@@ -54,6 +54,7 @@ fn count_entering(chart: &Chart<'_>, left: &mut [u16])
     requires { EventsKnown (drawn chart.now) × (left.old ≡ replicate (drawn chart.now).events 0) }
     ensures { Counted (drawn chart.now) left.new }
 {
+    let chart = *chart;
     for a in 0..chart.darts / 2 {
         left[chart.event_of(2 * a + 1)] += 1;
     }
@@ -136,11 +137,12 @@ fn peel_all(chart: &Chart<'_>, first: &[u16], left: &mut [u16], list: &mut [u16]
     ensures { Peeled (drawn chart.now) left.new list.new result result }
 {
     count_entering(chart, left);
+    let chart = *chart;
     let mut t = list_all_free(left, list);
     let mut h = 0;
     // no range: the list grows while it is gone through
     while h < t {
-        t = peel_one(chart, first, left, list, h, t);
+        t = peel_one(&chart, first, left, list, h, t);
         h += 1;
     }
     t
@@ -169,9 +171,10 @@ fn choose(chart: &Chart<'_>, left: &[u16], into: &mut [u16]) -> usize
     requires kept { Kept (drawn chart.now) left.now × (length into.old ≡ (drawn chart.now).events) }
     ensures { Chosen (drawn chart.now) left.now into.new result }
 {
+    let chart = *chart;
     let mut e = 0;
     for a in 0..chart.darts / 2 {
-        e = enter(chart, left, into, a, e);
+        e = enter(&chart, left, into, a, e);
     }
     e
 }

@@ -69,9 +69,10 @@ pub fn face_walk(chart: &Chart<'_>, here: &mut [u16], spare: &mut [u16]) -> usiz
     requires { Rings (drawn chart.now) × (here.old ≡ replicate chart.now.darts 65535) }
     ensures { Keyed (drawn chart.now) here.new × (result ≡ faces (drawn chart.now)) × Switched (drawn chart.now) here.new spare.new }
 {
+    let chart = *chart;
     let mut count = 0;
     for d in 0..chart.darts {
-        count += usize::from(visit(chart, here, spare, d, count));
+        count += usize::from(visit(&chart, here, spare, d, count));
     }
     count
 }

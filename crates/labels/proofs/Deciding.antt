@@ -10,8 +10,6 @@ use lib.ListN.{length}
 use lib.Seq.{ext_get_or}
 use Rattle.finite.proofs.Sum.{δ-eq, δ_other}
 use Rattle.drawing.specs.Drawing.{Drawing, darts, corner_face, plain, switch}
-use Rattle.rules.specs.Chart.{drawing}
-use Rattle.rules.proofs.Bytes.{darts_even}
 use Rattle.drawing.specs.Conditions.{OuterKnown, Rings, label, larges, Labelling}
 use Rattle.drawing.proofs.Faces.{corner_into, corner_face_lem}
 use Rattle.drawing.proofs.Labels.{large-room}
@@ -21,7 +19,6 @@ use Rattle.std.proofs.lemmas.Bool.{false≢true}
 use Rattle.std.proofs.lemmas.Slice.Eq.{bytes_eq-Decides}
 use Rattle.std.specs.Cmp.Lexicographic.{pointwise}
 use lib.Dec.{eqb}
-use Rattle.chart.specs.Shape.{Shape}
 use Rattle.chart.specs.Held.{Keyed, Poled, Roomed}
 use Rattle.chart.proofs.Keys.{key_class, at_key, keyed_labelling}
 use Rattle.labels.specs.Checks.{Suits, large, Counted}
@@ -46,25 +43,19 @@ pub says_same : (xs ys : List ℕ) (r : Bool) → r ≡ pointwise eqb xs ys → 
 says_same xs ys true e = (bytes_eq-Decides xs ys).0 (sym e)
 says_same xs ys false e = λ q. absurd (false≢true (e ∙ (bytes_eq-Decides xs ys).1 q))
 
-module _ {s : List ℕ} {n : ℕ} {here poles spare : List ℕ} (S : Shape s n) (R : Rings (drawing s)) (H : Keyed (drawing s) here) (P : Poled (drawing s) poles) (W : Roomed (drawing s) here spare) (l : List ℕ) (size : length l ≡ n) where
-  abbrev g : Drawing
-  g = drawing s
-
-  few : n ≡ darts g
-  few = S.darts
-
-  abbrev even : darts g % 2 ≡ 0
-  even = darts_even s
+module _ {g : Drawing} {n : ℕ} {here poles spare : List ℕ} (few : n ≡ darts g) (even : n % 2 ≡ 0) (R : Rings g) (H : Keyed g here) (P : Poled g poles) (W : Roomed g here spare) (l : List ℕ) (size : length l ≡ n) where
+  even' : darts g % 2 ≡ 0
+  even' = rw few at even
 
   pub labels_suit : Labelling g l → (c : ℕ) → c < n → Suits g l c
   labels_suit L c h =
       let k : c < darts g = omega (arith, few) in
       record { plains = L.plains c k; switches = L.switches c k }
 
-  module _ {e f : List ℕ} (K : Counted (drawing s) here l e f n) where
+  module _ {e f : List ℕ} (K : Counted g here l e f n) where
     pub labels_yes : OuterKnown g → ((c : ℕ) → c < n → Suits g l c) → e ≡ poles → f ≡ spare → Labelling g l
     labels_yes outer suit same-e same-f =
-        keyed_labelling even R H outer (large l) l
+        keyed_labelling even' R H outer (large l) l
         (λ c h. (suits_value g l c (suit c (omega (arith, few)))).0)
         (λ v h.
         let k : v < length e = omega (arith, K.size_e) in
@@ -82,7 +73,7 @@ module _ {s : List ℕ} {n : ℕ} {here poles spare : List ℕ} (S : Shape s n) 
         rw few at (K.by_event v k) ∙ L.events v h ∙ sym (P.each v h))
 
     pub labels-faces : Labelling g l → f ≡ spare
-    labels-faces L = ext_get_or 0 f spare (K.size_f ∙ sym W.size) (λ x k. at_key even R H (λ x. nth f x ≡ nth spare x) each x (omega (arith, K.size_f)))
+    labels-faces L = ext_get_or 0 f spare (K.size_f ∙ sym W.size) (λ x k. at_key even' R H (λ x. nth f x ≡ nth spare x) each x (omega (arith, K.size_f)))
       where
         each : (c : ℕ) → c < darts g → nth f (nth here c) ≡ nth spare (nth here c)
         each c h =
@@ -90,6 +81,6 @@ module _ {s : List ℕ} {n : ℕ} {here poles spare : List ℕ} (S : Shape s n) 
               arith,
               rw few at (K.by_face (nth here c) (omega (arith, H.inside c h, K.size_f))),
               key_class H (large l) c h,
-              large-room g even R l L (corner_face g c) (corner_into g even R c h) (corner_face_lem g even R c h),
+              large-room g even' R l L (corner_face g c) (corner_into g even' R c h) (corner_face_lem g even' R c h),
               W.each c h,
             )

@@ -35,7 +35,8 @@ fn all_keep(chart: &Chart<'_>) -> bool
 {
     let n = chart.darts;
     let mut total = 0;
-    for d in (0..n).step_by(2) {
+    for a in 0..n / 2 {
+        let d = 2 * a;
         let b = chart.next_of(d);
         if !keeps(chart, d, b) {
             return false;
@@ -104,18 +105,19 @@ fn reach(chart: &Chart<'_>, first: &mut [u16], queue: &mut [u16]) -> Option<usiz
     requires { Ground (drawn chart.now) × (first.old ≡ replicate (drawn chart.now).events 65535) × (length queue.old ≡ (drawn chart.now).events) }
     ensures { Followed (drawn chart.now) first.new result }
 {
+    let chart = *chart;
     let mut found = Worklist {
         first,
         queue,
         end: 0,
     };
-    found.push(chart, 0);
+    found.push(&chart, 0);
     let mut head = 0;
     let mut met = 0;
     // no `for`: the queue grows while it is worked off
     while head < found.end {
         let s = usize::from(found.queue[head]);
-        met += found.round(chart, s, chart.darts - met)?;
+        met += found.round(&chart, s, chart.darts - met)?;
         head += 1;
     }
     Some(met)
@@ -130,6 +132,7 @@ fn first_darts(chart: &Chart<'_>, first: &mut [u16])
     ensures { Picked (drawn chart.now) first.new }
 {
     first.fill(65535);
+    let chart = *chart;
     for d in 0..chart.darts {
         words::put(first, chart.event_of(d), d);
     }

@@ -44,6 +44,7 @@ fn mark_tails(chart: &Chart<'_>, poles: &mut [u16])
     ensures { Flagged (drawn chart.now) chart.now.darts 0 poles.new }
 {
     poles.fill(0);
+    let chart = *chart;
     for a in 0..chart.darts / 2 {
         let v = chart.event_of(2 * a);
         poles[v] = 1;
@@ -55,6 +56,7 @@ fn mark_heads(chart: &Chart<'_>, poles: &mut [u16])
     requires { EventsKnown (drawn chart.now) × Flagged (drawn chart.now) chart.now.darts 0 poles.old }
     ensures { Flagged (drawn chart.now) chart.now.darts chart.now.darts poles.new }
 {
+    let chart = *chart;
     for a in 0..chart.darts / 2 {
         let v = chart.event_of(2 * a + 1);
         poles[v] = poles[v] % 2 + 2;
