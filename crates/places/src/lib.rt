@@ -66,9 +66,10 @@ fn seat_all(
     requires { Begin (drawn chart.now) here.now poles.now first.now large.old spare.old }
     ensures { SeatedAll (drawn chart.now) here.now poles.now (nth spare.old) large.new spare.new result }
 {
+    let chart = *chart;
     let mut left = None;
     for e in 0..poles.len() {
-        let outcome = seat(chart, here, poles, first, large, spare, e);
+        let outcome = seat(&chart, here, poles, first, large, spare, e);
         if outcome == Outcome::LeftOver {
             left = left.or(Some(e));
         }
@@ -141,6 +142,7 @@ fn write_plain(chart: &Chart<'_>, labels: &mut [u8])
     requires { length labels.old ≡ chart.now.darts }
     ensures { Plains (drawn chart.now) labels.new }
 {
+    let chart = *chart;
     for (c, label) in labels.iter_mut().enumerate() {
         *label = plain_of(c, chart.next_of(c));
     }
